@@ -1,0 +1,9 @@
+pub mod Hash
+pub mod Reach
+pub mod Paths
+pub mod Levels
+pub mod Plan
+pub mod Room
+pub mod Places
+pub mod Search
+pub mod Kept

@@ -1,0 +1,84 @@
+-- The calls that the table offers, their answers, and the paper's number and values of each answer. Assumes nothing.
+use Prim.Native.Nat.{ℕ, zero, suc, _^_, _<_}
+use mathlib.Core.Path.{_≡_}
+use mathlib.Core.Bool.{Bool}
+use mathlib.Core.List.{List, [], _∷_}
+
+-- the calls on a table, with what they take
+pub data Call : Type 0 where
+  read : (animal limit now : ℕ) → Call
+  serve : (animal limit now : ℕ) → Call
+  find : (animal : ℕ) → Call
+  set-animal : (animal permission now : ℕ) (standing : Bool) → Call
+  delete : (animal : ℕ) → Call
+  evict : (hand : ℕ) → Call
+  write-list : (size : ℕ) → Call
+
+-- a call on a table, or the call that makes one fresh
+pub data Event : Type 0 where
+  make-fresh : Event
+  did : Call → Event
+
+-- what a call can answer
+pub data Answer : Type 0 where
+  refused : (number : ℕ) → Answer
+  absent : Answer
+  fresh : (permission age : ℕ) → Answer
+  old : (age : ℕ) → Answer
+  ahead : Answer
+  stored : (visits moves : ℕ) → Answer
+  deleted : Answer
+  evicted : (victim looked hand : ℕ) → Answer
+  started : Answer
+  listed : (count : ℕ) (bytes : List ℕ) → Answer
+  at-place : (place : ℕ) → Answer
+
+-- the paper's number of an answer, 0 for success, and its values: which success it is, and what it tells
+pub record Paper : Type 0 where
+  pub number : ℕ
+  pub values : List ℕ
+
+abbrev pub success : List ℕ → Paper
+success vs = record { number = 0; values = vs }
+
+abbrev pub paper : Answer → Paper
+paper (refused n) = record { number = n; values = [] }
+paper absent = success (0 ∷ [])
+paper (fresh v a) = success (1 ∷ v ∷ a ∷ [])
+paper (old a) = success (2 ∷ a ∷ [])
+paper ahead = success (3 ∷ [])
+paper (stored v n) = success (4 ∷ v ∷ n ∷ [])
+paper deleted = success (5 ∷ [])
+paper (evicted x n h) = success (6 ∷ x ∷ n ∷ h ∷ [])
+paper started = success (7 ∷ [])
+paper (listed n bs) = success (8 ∷ n ∷ bs)
+paper (at-place p) = success (9 ∷ p ∷ [])
+
+-- the hand that comes back from evict: the new one, or the one that was passed in
+abbrev pub hand-back : ℕ → Answer → ℕ
+hand-back h (refused n) = h
+hand-back h absent = h
+hand-back h (fresh v a) = h
+hand-back h (old a) = h
+hand-back h ahead = h
+hand-back h (stored v n) = h
+hand-back h deleted = h
+hand-back h (evicted x n h′) = h′
+hand-back h started = h
+hand-back h (listed n bs) = h
+hand-back h (at-place p) = h
+
+-- the numbers that a caller can pass: a permission has 32 bits
+abbrev pub Typed : Call → Type 0
+Typed (read x limit now) = Unit {0}
+Typed (serve x limit now) = Unit {0}
+Typed (find x) = Unit {0}
+Typed (set-animal x v now s) = v < 2 ^ 32
+Typed (delete x) = Unit {0}
+Typed (evict hand) = Unit {0}
+Typed (write-list size) = Unit {0}
+
+abbrev pub AllTyped : List Event → Type 0
+AllTyped [] = Unit {0}
+AllTyped (make-fresh ∷ es) = AllTyped es
+AllTyped (did c ∷ es) = Typed c × AllTyped es

@@ -1,0 +1,15 @@
+pub mod Choice
+pub mod Memory
+pub mod Hash
+pub mod Yard
+pub mod Stores
+pub mod Moves
+pub mod Visits
+pub mod Answers
+pub mod Age
+pub mod Clock
+pub mod Listing
+pub mod Calls
+pub mod Lent
+pub mod Row
+pub mod WellFormed

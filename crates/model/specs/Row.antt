@@ -1,0 +1,196 @@
+-- The plain row of places: the same calls over four words a place, with no slots, no tags, no hash and no counters. It is written
+-- apart from the table: its own walk, its own judgement of age, its own CLOCK and its own list. Assumes nothing.
+use Prim.Native.Nat.{ℕ, zero, suc, _+_, _-_, _*_, _/_, _%_, _^_, _<_}
+use mathlib.Core.Bool.{Bool, true, false, not, _&&_}
+use mathlib.Core.Option.{Option, none, some}
+use mathlib.Core.List.{List, [], _∷_, _++_}
+use lib.ListN.{length, getD, set, replicate}
+use lib.Dec.{ltb, leb, eqb}
+use Rattle.model.specs.Choice.{choose}
+use Rattle.model.specs.Answers.{Call, read, serve, find, set-animal, delete, evict, write-list}
+use Rattle.model.specs.Answers.{Event, make-fresh, did}
+use Rattle.model.specs.Answers.{Answer, refused, absent, fresh, old, ahead, stored, deleted, evicted, started, listed, at-place}
+
+-- what a call on a row comes to: its answer and the row afterwards
+pub record Row : Type 0 where
+  pub answer : Answer
+  pub words : List ℕ
+
+-- an answer that leaves the row as it is
+abbrev pub stay : List ℕ → Answer → Row
+stay l a = record { answer = a; words = l }
+
+-- the word number j of place p
+abbrev pub item : List ℕ → ℕ → ℕ → ℕ
+item l p j = getD l (4 * p + j) 0
+
+-- walk over n places from p on to the first whose number is x; x = 0 looks for a vacant one
+unfoldable pub walk-to : List ℕ → ℕ → ℕ → ℕ → Option ℕ
+walk-to l x zero p = none
+walk-to l x (suc n) p = choose (eqb (item l p 0) x) (some p) (walk-to l x n (suc p))
+
+-- the four words of place p are written; the last three; the recent word
+abbrev pub fill : List ℕ → ℕ → ℕ → ℕ → ℕ → ℕ → List ℕ
+fill l p a b c d = set (set (set (set l (4 * p) a) (4 * p + 1) b) (4 * p + 2) c) (4 * p + 3) d
+
+abbrev pub renew : List ℕ → ℕ → ℕ → ℕ → List ℕ
+renew l p b c = set (set (set l (4 * p + 1) b) (4 * p + 2) c) (4 * p + 3) 1
+
+abbrev pub note : List ℕ → ℕ → ℕ → List ℕ
+note l p mark = set l (4 * p + 3) mark
+
+-- a permission v with stamp s: standing is fresh of age 0; else ahead, or fresh, or old, by the age
+unfoldable pub row-says : ℕ → ℕ → ℕ → ℕ → Answer
+row-says limit now v s =
+    choose (eqb s (2 ^ 64 - 1)) (fresh v 0)
+    (choose (ltb now s) ahead (choose (ltb limit (now - s)) (old (now - s)) (fresh v (now - s))))
+
+-- whether that is fresh
+abbrev pub says-fresh : Answer → Bool
+says-fresh (refused n) = false
+says-fresh absent = false
+says-fresh (fresh v a) = true
+says-fresh (old a) = false
+says-fresh ahead = false
+says-fresh (stored v n) = false
+says-fresh deleted = false
+says-fresh (evicted x n h) = false
+says-fresh started = false
+says-fresh (listed n l) = false
+says-fresh (at-place p) = false
+
+-- CLOCK as document 01 tells it. From the hand p on: skip a vacant place; store 0 in the recent word of a recent one and pass; take
+-- the first live one that isn't recent. n places were looked at before, and at most f more are
+pub record Turn : Type 0 where
+  pub words : List ℕ
+  pub victim : ℕ
+  pub looked : ℕ
+
+-- the row after the hand passed place p
+abbrev pub passed : List ℕ → ℕ → List ℕ
+passed l p = choose (eqb (item l p 0) 0) l (note l p 0)
+
+unfoldable pub row-clock : ℕ → List ℕ → ℕ → ℕ → ℕ → Option Turn
+row-clock M l zero p n = none
+row-clock M l (suc f) p n =
+    choose (not (eqb (item l p 0) 0) && eqb (item l p 3) 0) (some (record { words = l; victim = p; looked = n + 1 }))
+    (row-clock M (passed l p) f ((p + 1) % M) (n + 1))
+
+-- byte number i of a number, counting from the low end; and the first n of them from i on
+abbrev pub byte : ℕ → ℕ → ℕ
+byte x i = x / 256 ^ i % 256
+
+unfoldable pub low-bytes : ℕ → ℕ → ℕ → List ℕ
+low-bytes x i zero = []
+low-bytes x i (suc n) = byte x i ∷ low-bytes x (suc i) n
+
+-- the live ones of n places from p on: how many, and their 20-byte records one after the other
+unfoldable pub row-count : List ℕ → ℕ → ℕ → ℕ
+row-count l zero p = 0
+row-count l (suc n) p = choose (eqb (item l p 0) 0) 0 1 + row-count l n (suc p)
+
+unfoldable pub row-list : List ℕ → ℕ → ℕ → List ℕ
+row-list l zero p = []
+row-list l (suc n) p =
+    choose (eqb (item l p 0) 0) []
+    (low-bytes (item l p 0) 0 8 ++ (low-bytes (item l p 1) 0 4 ++ low-bytes (item l p 2) 0 8))
+    ++ row-list l n (suc p)
+
+-- M is the number of places
+module _ (M : ℕ) where
+  -- refusal 2 for number 0, then refusal 3 for a bad time
+  abbrev pub row-asked : List ℕ → ℕ → Bool → Row → Row
+  row-asked l x bad r = choose (eqb x 0) (stay l (refused 2)) (choose bad (stay l (refused 3)) r)
+
+  abbrev pub row-bad-time : ℕ → ℕ → Bool
+  row-bad-time limit now = choose (ltb 10080 limit) true (eqb now (2 ^ 64 - 1))
+
+  -- read, serve and find, at the place where the walk found the animal
+  abbrev pub row-read : List ℕ → ℕ → ℕ → Option ℕ → Answer
+  row-read l limit now none = absent
+  row-read l limit now (some p) = row-says limit now (item l p 1) (item l p 2)
+
+  abbrev pub row-serve : List ℕ → ℕ → ℕ → Option ℕ → Row
+  row-serve l limit now none = stay l absent
+  row-serve l limit now (some p) =
+      record {
+        answer = row-read l limit now (some p);
+        words = choose (says-fresh (row-read l limit now (some p))) (note l p 1) l;
+      }
+
+  abbrev pub row-find : Option ℕ → Answer
+  row-find none = absent
+  row-find (some p) = at-place p
+
+  -- set: `full` says that the table has no room for a new entry, which a row can't know: then it is refusal 6
+  abbrev pub row-new : Bool → List ℕ → ℕ → ℕ → ℕ → Option ℕ → Row
+  row-new full l x v s none = stay l (refused 5)
+  row-new full l x v s (some p) =
+      choose full (stay l (refused 6)) (record { answer = stored 0 0; words = fill l p x v s 1 })
+
+  abbrev pub row-set : Bool → List ℕ → ℕ → ℕ → ℕ → Option ℕ → Row
+  row-set full l x v s none = row-new full l x v s (walk-to l 0 M 0)
+  row-set full l x v s (some p) = record { answer = stored 0 0; words = renew l p v s }
+
+  abbrev pub row-stamp : ℕ → Bool → ℕ
+  row-stamp now true = 2 ^ 64 - 1
+  row-stamp now false = now
+
+  abbrev pub row-delete : List ℕ → Option ℕ → Row
+  row-delete l none = stay l (refused 7)
+  row-delete l (some p) = record { answer = deleted; words = fill l p 0 0 0 0 }
+
+  abbrev pub row-evict : List ℕ → Option Turn → Row
+  row-evict l none = stay l (refused 10)
+  row-evict l (some t) =
+      record {
+        answer = evicted (item l (t .victim) 0) (t .looked) ((t .victim + 1) % M);
+        words = fill (t .words) (t .victim) 0 0 0 0;
+      }
+
+  -- every call on a row
+  abbrev pub row-call : Bool → List ℕ → Call → Row
+  row-call full l (read x limit now) =
+      row-asked l x (row-bad-time limit now) (stay l (row-read l limit now (walk-to l x M 0)))
+  row-call full l (serve x limit now) = row-asked l x (row-bad-time limit now) (row-serve l limit now (walk-to l x M 0))
+  row-call full l (find x) = row-asked l x false (stay l (row-find (walk-to l x M 0)))
+  row-call full l (set-animal x v now s) =
+      row-asked l x (eqb now (2 ^ 64 - 1)) (row-set full l x v (row-stamp now s) (walk-to l x M 0))
+  row-call full l (delete x) = row-asked l x false (row-delete l (walk-to l x M 0))
+  row-call full l (evict hand) =
+      choose (leb M hand) (stay l (refused 1))
+      (choose (eqb (row-count l M 0) 0) (stay l (refused 7)) (row-evict l (row-clock M l (2 * M) hand 0)))
+  row-call full l (write-list size) =
+      stay l (choose (ltb size (20 * row-count l M 0)) (refused 9) (listed (row-count l M 0) (row-list l M 0)))
+
+  -- with fresh among the calls: every word is 0
+  abbrev pub row-event : Bool → List ℕ → Event → Row
+  row-event full l make-fresh = record { answer = started; words = replicate (4 * M) 0 }
+  row-event full l (did c) = row-call full l c
+
+-- the exceptions of demand 2: an answer without the search counts, and whether it is refusal 6
+abbrev pub plain : Answer → Answer
+plain (refused n) = refused n
+plain absent = absent
+plain (fresh v a) = fresh v a
+plain (old a) = old a
+plain ahead = ahead
+plain (stored v n) = stored 0 0
+plain deleted = deleted
+plain (evicted x n h) = evicted x n h
+plain started = started
+plain (listed n l) = listed n l
+plain (at-place p) = at-place p
+
+abbrev pub no-room : Answer → Bool
+no-room (refused n) = eqb n 6
+no-room absent = false
+no-room (fresh v a) = false
+no-room (old a) = false
+no-room ahead = false
+no-room (stored v n) = false
+no-room deleted = false
+no-room (evicted x n h) = false
+no-room started = false
+no-room (listed n l) = false
+no-room (at-place p) = false
