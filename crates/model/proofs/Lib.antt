@@ -1,4 +1,5 @@
 pub mod Hash
+pub mod Lawful
 pub mod Reach
 pub mod Paths
 pub mod Levels
@@ -7,3 +8,10 @@ pub mod Room
 pub mod Places
 pub mod Search
 pub mod Kept
+pub mod Laws
+pub mod Calm
+pub mod Keep
+pub mod View
+pub mod Agree
+pub mod Spare
+pub mod Cut

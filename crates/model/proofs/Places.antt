@@ -17,7 +17,7 @@ use Rattle.model.specs.Moves.{Free, Move, word-in}
 use Rattle.model.specs.Visits.{climb, hop, hops, lands, next-level, sum-of-powers, visits}
 use Rattle.model.proofs.Paths.{Fewest, Shortest, Slots, into, level, plan, walk}
 use Rattle.model.proofs.Levels.{level-visits}
-use Rattle.model.proofs.Room.{found}
+use Rattle.model.proofs.Room.{found-fewest}
 
 pub mem-at : (l : List ℕ) (i : ℕ) → i < length l → Mem (getD l i 0) l
 mem-at [] i h = absurd (omega arith)
@@ -232,7 +232,7 @@ module _ (S : Layout) (T : List ℕ) (bs : List ℕ) (d q r : ℕ) (before : (i 
       (h : r < S .ways) (free : word-in S T (getD (visits S T d bs) q 0) r ≡ 0) where
     fewest-at : (t : Trail S T d bs d q r) → Fewest S T bs (t .b) (t .p) r
     fewest-at t =
-        found S T n size closed bs home-in
+        found-fewest S T n size closed bs home-in
         (record {
           home = t .home;
           slots = t .slots;

@@ -37,8 +37,8 @@ module _ (S : Layout) (T : List ℕ) (n : ℕ) (size : length T ≡ n * S .ways)
   )
 
   -- what the search finds takes the fewest moves
-  pub found : {b : ℕ} {p : List ℕ} {r : ℕ} → Found S T bs b p r → Fewest S T bs b p r
-  found {b} {p} {r} o =
+  pub found-fewest : {b : ℕ} {p : List ℕ} {r : ℕ} → Found S T bs b p r → Fewest S T bs b p r
+  found-fewest {b} {p} {r} o =
       record {
         different = distinct S T b p (o .slots) (r, o .slot, o .free) (short b (o .home));
         run = y .run;

@@ -47,20 +47,20 @@ module _ (S : Layout) (T : List ℕ) where
   full b h f = slot-is b .under (f .0) (omega arith) (omega arith) (f .2)
 
   -- q is the first place of bs with a free slot, or its length
-  pub record First (bs : List ℕ) (q : ℕ) : Type 0 where
+  pub record Stop (bs : List ℕ) (q : ℕ) : Type 0 where
     pub top : q ≤ length bs
     pub free : q < length bs → free-slot S T (getD bs q 0) < S .ways
     pub before : (i : ℕ) → i < q → ¬ Free S T (getD bs i 0)
 
-  pub first-is : (bs : List ℕ) → First bs (first-free S T bs)
+  pub stop-is : (bs : List ℕ) → Stop bs (first-free S T bs)
   unfolding first-free
-  first-is [] = record { top = omega arith; free = λ h. absurd (omega arith); before = λ i h. absurd (omega arith) }
-  first-is (b ∷ bs) =
+  stop-is [] = record { top = omega arith; free = λ h. absurd (omega arith); before = λ i h. absurd (omega arith) }
+  stop-is (b ∷ bs) =
       dite (decLt (free-slot S T b) (S .ways))
       (λ z. rw (lt-ltb (free-slot S T b) (S .ways) z) (record { top = omega arith; free = λ h. z; before = λ i h. absurd (omega arith) }))
-      λ nz. rw (le-ltb (free-slot S T b) (S .ways) (omega arith)) (more (full b (omega arith)) (first-is bs))
+      λ nz. rw (le-ltb (free-slot S T b) (S .ways) (omega arith)) (more (full b (omega arith)) (stop-is bs))
     where
-      more : {q : ℕ} → ¬ Free S T b → First bs q → First (b ∷ bs) (suc q)
+      more : {q : ℕ} → ¬ Free S T b → Stop bs q → Stop (b ∷ bs) (suc q)
       more {q} nf r = record { top = omega (arith, r .top); free = λ h. r .free (omega arith); before = before }
         where
           before : (i : ℕ) → i < suc q → ¬ Free S T (getD (b ∷ bs) i 0)
@@ -68,7 +68,7 @@ module _ (S : Layout) (T : List ℕ) where
           before (suc i) h = r .before i (omega arith)
 
 pub stop-le : (S : Layout) (T bs : List ℕ) → first-free S T bs ≤ length bs
-stop-le S T bs = first-is S T bs .top
+stop-le S T bs = stop-is S T bs .top
 
 -- what a loop that stops at the first free slot, or at the first bucket with one, has found
 module _ (S : Layout) (T : List ℕ) where
@@ -81,7 +81,7 @@ module _ (S : Layout) (T : List ℕ) where
   pub first-same : (bs : List ℕ) (q : ℕ) → q ≤ length bs → (q < length bs → Free S T (getD bs q 0)) → ((i : ℕ) → i < q → ¬ Free S T (getD bs i 0))
       → q ≡ first-free S T bs
   first-same bs q top free before =
-      let r = first-is S T bs in
+      let r = stop-is S T bs in
       let p = first-free S T bs in
       dite (decLt q p) (λ h. absurd (r .before q h (free (omega (arith, r .top))))) λ nl.
       dite (decLt p q)
@@ -116,13 +116,13 @@ module _ (S : Layout) (T : List ℕ) (n : ℕ) (size : length T ≡ n * S .ways)
       b : ℕ
       b = getD vs q 0
 
-      one : First S T vs q
-      one = first-is S T vs
+      one : Stop S T vs q
+      one = stop-is S T vs
 
   -- and if it stops before, its moves are legal, make room and are the fewest
   pub search-some : stop S T bs d < length (visit-list S T bs d) → Shortest S T bs (stop-slot S T bs d) (search-moves S T bs d)
   search-some h =
-      let one = first-is S T (visit-list S T bs d) in
+      let one = stop-is S T (visit-list S T bs d) in
       let b = getD (visit-list S T bs d) (stop S T bs d) 0 in
       shortest S T bs d (stop S T bs d) (free-slot S T b) (one .before) n size closed home-in (one .free h) (slot-is S T b .free (one .free h)) h
 

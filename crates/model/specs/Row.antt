@@ -4,9 +4,10 @@ use Prim.Native.Nat.{ℕ, zero, suc, _+_, _-_, _*_, _/_, _%_, _^_, _<_}
 use mathlib.Core.Bool.{Bool, true, false, not, _&&_}
 use mathlib.Core.Option.{Option, none, some}
 use mathlib.Core.List.{List, [], _∷_, _++_}
-use lib.ListN.{length, getD, set, replicate}
+use lib.ListN.{set, replicate}
 use lib.Dec.{ltb, leb, eqb}
 use Rattle.model.specs.Choice.{choose}
+use Rattle.model.specs.Memory.{animal, permission, stamp, recent}
 use Rattle.model.specs.Answers.{Call, read, serve, find, set-animal, delete, evict, write-list}
 use Rattle.model.specs.Answers.{Event, make-fresh, did}
 use Rattle.model.specs.Answers.{Answer, refused, absent, fresh, old, ahead, stored, deleted, evicted, started, listed, at-place}
@@ -20,14 +21,10 @@ pub record Row : Type 0 where
 abbrev pub stay : List ℕ → Answer → Row
 stay l a = record { answer = a; words = l }
 
--- the word number j of place p
-abbrev pub item : List ℕ → ℕ → ℕ → ℕ
-item l p j = getD l (4 * p + j) 0
-
 -- walk over n places from p on to the first whose number is x; x = 0 looks for a vacant one
 unfoldable pub walk-to : List ℕ → ℕ → ℕ → ℕ → Option ℕ
 walk-to l x zero p = none
-walk-to l x (suc n) p = choose (eqb (item l p 0) x) (some p) (walk-to l x n (suc p))
+walk-to l x (suc n) p = choose (eqb (animal l p) x) (some p) (walk-to l x n (suc p))
 
 -- the four words of place p are written; the last three; the recent word
 abbrev pub fill : List ℕ → ℕ → ℕ → ℕ → ℕ → ℕ → List ℕ
@@ -68,12 +65,12 @@ pub record Turn : Type 0 where
 
 -- the row after the hand passed place p
 abbrev pub passed : List ℕ → ℕ → List ℕ
-passed l p = choose (eqb (item l p 0) 0) l (note l p 0)
+passed l p = choose (eqb (animal l p) 0) l (note l p 0)
 
 unfoldable pub row-clock : ℕ → List ℕ → ℕ → ℕ → ℕ → Option Turn
 row-clock M l zero p n = none
 row-clock M l (suc f) p n =
-    choose (not (eqb (item l p 0) 0) && eqb (item l p 3) 0) (some (record { words = l; victim = p; looked = n + 1 }))
+    choose (not (eqb (animal l p) 0) && eqb (recent l p) 0) (some (record { words = l; victim = p; looked = n + 1 }))
     (row-clock M (passed l p) f ((p + 1) % M) (n + 1))
 
 -- byte number i of a number, counting from the low end; and the first n of them from i on
@@ -87,13 +84,13 @@ low-bytes x i (suc n) = byte x i ∷ low-bytes x (suc i) n
 -- the live ones of n places from p on: how many, and their 20-byte records one after the other
 unfoldable pub row-count : List ℕ → ℕ → ℕ → ℕ
 row-count l zero p = 0
-row-count l (suc n) p = choose (eqb (item l p 0) 0) 0 1 + row-count l n (suc p)
+row-count l (suc n) p = choose (eqb (animal l p) 0) 0 1 + row-count l n (suc p)
 
 unfoldable pub row-list : List ℕ → ℕ → ℕ → List ℕ
 row-list l zero p = []
 row-list l (suc n) p =
-    choose (eqb (item l p 0) 0) []
-    (low-bytes (item l p 0) 0 8 ++ (low-bytes (item l p 1) 0 4 ++ low-bytes (item l p 2) 0 8))
+    choose (eqb (animal l p) 0) []
+    (low-bytes (animal l p) 0 8 ++ (low-bytes (permission l p) 0 4 ++ low-bytes (stamp l p) 0 8))
     ++ row-list l n (suc p)
 
 -- M is the number of places
@@ -108,7 +105,7 @@ module _ (M : ℕ) where
   -- read, serve and find, at the place where the walk found the animal
   abbrev pub row-read : List ℕ → ℕ → ℕ → Option ℕ → Answer
   row-read l limit now none = absent
-  row-read l limit now (some p) = row-says limit now (item l p 1) (item l p 2)
+  row-read l limit now (some p) = row-says limit now (permission l p) (stamp l p)
 
   abbrev pub row-serve : List ℕ → ℕ → ℕ → Option ℕ → Row
   row-serve l limit now none = stay l absent
@@ -144,7 +141,7 @@ module _ (M : ℕ) where
   row-evict l none = stay l (refused 10)
   row-evict l (some t) =
       record {
-        answer = evicted (item l (t .victim) 0) (t .looked) ((t .victim + 1) % M);
+        answer = evicted (animal l (t .victim)) (t .looked) ((t .victim + 1) % M);
         words = fill (t .words) (t .victim) 0 0 0 0;
       }
 
