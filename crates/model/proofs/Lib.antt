@@ -15,3 +15,4 @@ pub mod View
 pub mod Agree
 pub mod Spare
 pub mod Cut
+pub mod Clock
