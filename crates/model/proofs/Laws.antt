@@ -88,7 +88,7 @@ pub take-past : (xs ys : List Store) (k : ℕ) → length xs ≤ k → take k (x
 take-past xs ys k h = let e : k ≡ length xs + (k - length xs) = omega arith in ap (λ k. take k (xs ++ ys)) e ∙ take-append-add xs ys (k - length xs)
 
 -- a walk over the places finds the first that passes
-walk-first : (l : List ℕ) (x n p : ℕ) → walk-to l x n p ≡ first (λ q. eqb (animal l q) x) (range p n)
+pub walk-first : (l : List ℕ) (x n p : ℕ) → walk-to l x n p ≡ first (λ q. eqb (animal l q) x) (range p n)
 unfolding walk-to first range
 walk-first l x zero p = refl
 walk-first l x (suc n) p = ap (choose (eqb (animal l p) x) (some p)) (walk-first l x n (suc p))

@@ -16,3 +16,8 @@ pub mod Agree
 pub mod Spare
 pub mod Cut
 pub mod Clock
+pub mod Apart
+pub mod Step
+pub mod StepSet
+pub mod StepEvict
+pub mod Steps

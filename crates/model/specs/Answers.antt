@@ -82,3 +82,47 @@ abbrev pub AllTyped : List Event → Type 0
 AllTyped [] = Unit {0}
 AllTyped (make-fresh ∷ es) = AllTyped es
 AllTyped (did c ∷ es) = Typed c × AllTyped es
+
+-- the victim of an evict's answer: 0, which is no animal, if there is none
+abbrev pub victim-in : Answer → ℕ
+victim-in (refused n) = 0
+victim-in absent = 0
+victim-in (fresh v a) = 0
+victim-in (old a) = 0
+victim-in ahead = 0
+victim-in (stored v n) = 0
+victim-in deleted = 0
+victim-in (evicted x n h) = x
+victim-in started = 0
+victim-in (listed n bs) = 0
+victim-in (at-place p) = 0
+
+-- the animal that a call with that answer is about: 0 if none
+abbrev pub about : Call → Answer → ℕ
+about (read x limit now) r = x
+about (serve x limit now) r = x
+about (find x) r = x
+about (set-animal x v now s) r = x
+about (delete x) r = x
+about (evict hand) r = victim-in r
+about (write-list size) r = 0
+
+-- the animal that a call with that answer takes away: 0 if none
+abbrev pub gone : Call → Answer → ℕ
+gone (read x limit now) r = 0
+gone (serve x limit now) r = 0
+gone (find x) r = 0
+gone (set-animal x v now s) r = 0
+gone (delete x) r = x
+gone (evict hand) r = victim-in r
+gone (write-list size) r = 0
+
+-- set, delete and evict have a cut form
+abbrev pub HasCut : Call → Type 0
+HasCut (read x limit now) = ⊥
+HasCut (serve x limit now) = ⊥
+HasCut (find x) = ⊥
+HasCut (set-animal x v now s) = Unit {0}
+HasCut (delete x) = Unit {0}
+HasCut (evict hand) = Unit {0}
+HasCut (write-list size) = ⊥

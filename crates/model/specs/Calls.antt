@@ -100,18 +100,21 @@ module _ (Y : Yard) where
   abbrev pub wounded : Mem → ℕ → Bool
   wounded m x = any (λ b. damage-in m (slots-of Y b)) (take (stopped m x + 1) (visited m x))
 
-  -- the moves as blocks, each with the word that stands in its source when its turn comes
+  -- a move as a block, with the word that stands in its source; and moves one after the other
+  abbrev pub move-block : List ℕ → Move → Block
+  move-block T v = move (counter-at Y (tag (getD T (v .from) 0)) (bucket Y (v .from))) (v .from) (v .to) (getD T (v .from) 0)
+
   abbrev pub move-blocks : List ℕ → List Move → List Block
   move-blocks T [] = []
-  move-blocks T (v ∷ vs) =
-      move (counter-at Y (tag (getD T (v .from) 0)) (bucket Y (v .from))) (v .from) (v .to) (getD T (v .from) 0)
-      ∷ move-blocks (moved T v) vs
+  move-blocks T (v ∷ vs) = move-block T v ∷ move-blocks (moved T v) vs
+
+  -- the new entry of animal x in place p and slot i
+  abbrev pub enter-block : ℕ → ℕ → ℕ → ℕ → ℕ → Block
+  enter-block x v s p i = enter (counter-of Y x) p i (Y .tag-of x * 65536 + p) x v s
 
   -- set of an absent animal into a vacant place: the search decides; then the moves, and the new entry
   abbrev pub enter-blocks : Mem → ℕ → ℕ → ℕ → ℕ → List Block
-  enter-blocks m x v s p =
-      move-blocks (m .slots) (planned m x)
-      ++ (enter (counter-of Y x) p (final-slot m x) (Y .tag-of x * 65536 + p) x v s ∷ [])
+  enter-blocks m x v s p = move-blocks (m .slots) (planned m x) ++ (enter-block x v s p (final-slot m x) ∷ [])
 
   abbrev pub enter-at : Mem → ℕ → ℕ → ℕ → Option ℕ → Outcome
   enter-at m x v s none = refuse 5
