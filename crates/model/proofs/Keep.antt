@@ -1,5 +1,5 @@
 -- Each whole block, where its own condition holds, keeps a good memory good. Assumes nothing.
-use Prim.Native.Nat.{ℕ, _+_, _*_, _/_, _%_, _^_, _<_, min}
+use Prim.Native.Nat.{ℕ, _+_, _*_, _^_, _<_, _%_, _/_, min}
 use native.Mathlib.Nat.{mod-lt}
 use native.Mathlib.Omega.{arith}
 use native.Mathlib.Decide.{ℕ-discrete, decLt}
@@ -9,8 +9,7 @@ use mathlib.Core.Bool.{false}
 use mathlib.Core.List.{List}
 use lib.ListN.{length, getD, set, length-set, List·getD-eq-default}
 use lib.Seq.{getD-set-same, getD-set-other}
-use borrow.Author.Tests.{ne-eqb, le-ltb, lt-leb}
-use Rattle.model.specs.Choice.{there}
+use borrow.Author.Tests.{le-ltb, ne-eqb, lt-leb}
 use Rattle.model.specs.Memory.{Mem, animal, damaged, live, permission, place, recent, stamp, tag, word}
 use Rattle.model.specs.Yard.{Home, Yard, bucket, counter-at, counter-of}
 use Rattle.model.specs.Stores.{Block, enter, move, recency, remove, update, whole}
@@ -18,7 +17,7 @@ use Rattle.model.specs.Moves.{Legal, Move, moved}
 use Rattle.model.specs.Row.{fill, renew}
 use Rattle.model.specs.WellFormed.{Live, Points, Right, Sole, WellFormed}
 use Rattle.model.proofs.Lawful.{Lawful}
-use Rattle.model.proofs.Reach.{here, inside-held}
+use Rattle.model.proofs.Reach.{inside-held}
 use Rattle.model.proofs.Plan.{distinct}
 use Rattle.model.proofs.Kept.{across, at-else, at-to, origin}
 use Rattle.model.proofs.Laws.{at-set}

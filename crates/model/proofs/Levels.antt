@@ -1,16 +1,16 @@
 -- The visit list holds what paths lead to. Assumes nothing.
-use Prim.Native.Nat.{ℕ, zero, suc, _+_, _<_, _≤_}
+use Prim.Native.Nat.{ℕ, _+_, _<_, suc, _≤_, zero}
 use native.Mathlib.Omega.{arith}
 use native.Mathlib.Decide.{ℕ-discrete}
 use mathlib.Core.Path.{_≡_, refl, sym, ap, _∙_}
 use mathlib.Core.Logic.{⊎-elim, dite}
-use mathlib.Core.List.{List, [], _∷_, List·Memᴰ as Mem, List·Memᴰ·head as head, List·Memᴰ·tail as tail}
-use mathlib.Core.List.{List·Memᴰ·not-nil as not-nil, List·Memᴰ·append-cases as append-cases, Memᴰ·append-left, Memᴰ·append-right}
+use mathlib.Core.List.{List, [], _∷_, Memᴰ·append-left, Memᴰ·append-right, List·Memᴰ as Mem, List·Memᴰ·head as head, List·Memᴰ·tail as tail}
+use mathlib.Core.List.{List·Memᴰ·not-nil as not-nil, List·Memᴰ·append-cases as append-cases}
 use lib.ListN.{length}
 use Rattle.model.specs.Yard.{Layout}
 use Rattle.model.specs.Moves.{Free, word-in}
 use Rattle.model.specs.Visits.{hop, hops, next-level, visits}
-use Rattle.model.proofs.Reach.{Reach, here, step}
+use Rattle.model.proofs.Reach.{Reach, onward, reached}
 use Rattle.model.proofs.Paths.{Slots, level, walk}
 
 module _ (S : Layout) (T : List ℕ) where
@@ -72,15 +72,15 @@ module _ (S : Layout) (T : List ℕ) where
   -- a bucket within reach is at a level, and at the end of a path; and the other way round
   pub reach-level : {j b : ℕ} (bs : List ℕ) → Mem b bs → Reach S T j b → (k : ℕ) × (v : ℕ) × (k ≤ j) × Mem v (level S T k bs) × Free S T v
   unfolding level
-  reach-level {j} {b} bs q (here f) = (0, b, omega arith, q, f)
-  reach-level bs q (step s h ne r) =
+  reach-level {j} {b} bs q (reached f) = (0, b, omega arith, q, f)
+  reach-level bs q (onward s h ne r) =
       let x = reach-level (next-level S T bs) (mem-next bs q h) r in (suc (x .0), x .1, omega arith, x .3, x .4)
 
   pub reach-walk : {j b : ℕ} → Reach S T j b → (p : List ℕ) × (length p ≤ j) × Slots S p × Free S T (walk S T b p)
-  reach-walk (here f) = ([], omega arith, tt, f)
-  reach-walk (step s h ne r) = let x = reach-walk r in (s ∷ x .0, omega arith, (h, x .2), x .3)
+  reach-walk (reached f) = ([], omega arith, tt, f)
+  reach-walk (onward s h ne r) = let x = reach-walk r in (s ∷ x .0, omega arith, (h, x .2), x .3)
 
   pub walk-reach : {b : ℕ} (p : List ℕ) → Slots S p → Free S T (walk S T b p) → Reach S T (length p) b
-  walk-reach [] h f = here f
+  walk-reach [] h f = reached f
   walk-reach {b} (s ∷ p) h f =
-      dite (ℕ-discrete (word-in S T b s) 0) (λ e. here (s, h .0, e)) λ ne. step s (h .0) ne (walk-reach p (h .1) f)
+      dite (ℕ-discrete (word-in S T b s) 0) (λ e. reached (s, h .0, e)) λ ne. onward s (h .0) ne (walk-reach p (h .1) f)

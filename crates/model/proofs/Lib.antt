@@ -21,3 +21,10 @@ pub mod Step
 pub mod StepSet
 pub mod StepEvict
 pub mod Steps
+pub mod Runs
+pub mod Lent
+pub mod Searched
+pub mod Trace
+pub mod Demand1
+pub mod OnWellFormed
+pub mod Demands

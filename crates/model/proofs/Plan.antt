@@ -1,5 +1,5 @@
 -- The moves back along a shortest path are legal one after the other, and free a slot of the first bucket. Assumes nothing.
-use Prim.Native.Nat.{ℕ, suc, _+_, _*_, _<_, _≤_}
+use Prim.Native.Nat.{ℕ, _+_, _*_, _<_, suc, _≤_}
 use native.Mathlib.Omega.{arith}
 use mathlib.Core.Path.{_≡_, refl, sym, _∙_}
 use mathlib.Core.List.{List, [], _∷_, _++_}
@@ -10,7 +10,7 @@ use Rattle.model.specs.Yard.{Layout}
 use Rattle.model.specs.Moves.{Free, Legal, Move, Run, moved, moved-by, word-in}
 use Rattle.model.specs.Visits.{hop}
 use Rattle.model.specs.Calls.{held}
-use Rattle.model.proofs.Reach.{Reach, cleared, here, in-bucket, kept, step}
+use Rattle.model.proofs.Reach.{Reach, cleared, in-bucket, kept, onward, reached}
 use Rattle.model.proofs.Paths.{Away, Distinct, Slots, into, plan, stops, walk}
 use Rattle.model.proofs.Levels.{walk-reach}
 
@@ -36,11 +36,11 @@ module _ (S : Layout) (T : List ℕ) where
   Short b p = (j : ℕ) → j < length p → ¬ Reach S T j b
 
   short-tail : (b s : ℕ) (p : List ℕ) → Slots S (s ∷ p) → Short b (s ∷ p) → Short (hop S T b s) p
-  short-tail b s p h short j k r = short (suc j) (omega arith) (step s (h .0) (λ z. short 0 (omega arith) (here (s, h .0, z))) r)
+  short-tail b s p h short j k r = short (suc j) (omega arith) (onward s (h .0) (λ z. short 0 (omega arith) (reached (s, h .0, z))) r)
 
   -- what is farther from a free slot than the path's start is none of the path's buckets
   off : (x b : ℕ) (p : List ℕ) → Slots S p → Free S T (walk S T b p) → ((j : ℕ) → j ≤ length p → ¬ Reach S T j x) → Away x (b ∷ stops S T b p)
-  off x b [] h f far = (λ e. far 0 (omega arith) (rw e (here f)), tt)
+  off x b [] h f far = (λ e. far 0 (omega arith) (rw e (reached f)), tt)
   off x b (s ∷ p) h f far =
       (λ e. far (length (s ∷ p)) (omega arith) (rw e (walk-reach S T (s ∷ p) h f)), off x (hop S T b s) p (h .1) f (λ j k. far j (omega arith)))
 
@@ -67,7 +67,7 @@ module _ (S : Layout) (T : List ℕ) where
       legal : Done (hop S T b s) p U → Legal S U m
       legal d =
           record {
-            held = λ z. short 0 (omega arith) (here (s, h .0, sym same ∙ z));
+            held = λ z. short 0 (omega arith) (reached (s, h .0, sym same ∙ z));
             inside = rw (d .len, size) (digits-lt (closed (tag (word-in S T b s)) b hb) (into-slot S p hr (h .1)));
             vacant = d .freed;
             goes = simp (digits-div, into-slot S p hr (h .1), h .0, same);
@@ -86,7 +86,7 @@ module _ (S : Layout) (T : List ℕ) where
                 (kept S U m x k hk (rw (digits-div, into-slot S p hr (h .1)) (a .1 .0)) (λ e. a .0 (in-bucket hk e ∙ digits-div b (h .0))) ∙ d .rest x k hk (a .1));
           }
 
-    pub done : (b : ℕ) (p : List ℕ) → b < n → Slots S p → word-in S T (walk S T b p) r ≡ 0 → Short b p → Done b p (moved-by T (plan S T b p r))
-    done b [] hb h f short = record { run = tt; len = refl; freed = f; rest = λ c s k a. refl }
-    done b (s ∷ p) hb h f short =
-        extend b s p hb h f short (done (hop S T b s) p (closed (tag (word-in S T b s)) b hb) (h .1) f (short-tail b s p h short))
+    pub plan-done : (b : ℕ) (p : List ℕ) → b < n → Slots S p → word-in S T (walk S T b p) r ≡ 0 → Short b p → Done b p (moved-by T (plan S T b p r))
+    plan-done b [] hb h f short = record { run = tt; len = refl; freed = f; rest = λ c s k a. refl }
+    plan-done b (s ∷ p) hb h f short =
+        extend b s p hb h f short (plan-done (hop S T b s) p (closed (tag (word-in S T b s)) b hb) (h .1) f (short-tail b s p h short))

@@ -1,9 +1,9 @@
 -- What a legal move can do for a bucket: at most one edge is saved. Assumes nothing.
-use Prim.Native.Nat.{ℕ, suc, _+_, _*_, _/_, _%_, _<_}
+use Prim.Native.Nat.{ℕ, _+_, _*_, _<_, suc, _%_, _/_}
 use native.Mathlib.Nat.{div-add-mod', mod-lt}
 use native.Mathlib.Omega.{arith}
 use native.Mathlib.Decide.{ℕ-discrete, decLt}
-use mathlib.Core.Path.{_≡_, sym, ap, ap₂, _∙_}
+use mathlib.Core.Path.{_≡_, sym, ap, _∙_, ap₂}
 use mathlib.Core.Logic.{_≢_, dite}
 use mathlib.Core.List.{List, [], _∷_}
 use lib.ListN.{length, getD, set, length-set, List·getD-eq-default}
@@ -25,8 +25,8 @@ in-bucket {w} {b} h e = sym (digits-div b h) ∙ ap (λ i. i / w) e
 
 -- a bucket with a free slot is at most k edges away from b; each edge goes by an entry
 pub data Reach (S : Layout) (T : List ℕ) : ℕ → ℕ → Type 0 where
-  here : {k b : ℕ} → Free S T b → Reach S T k b
-  step : {k b : ℕ} (s : ℕ) → s < S .ways → word-in S T b s ≢ 0 → Reach S T k (hop S T b s) → Reach S T (suc k) b
+  reached : {k b : ℕ} → Free S T b → Reach S T k b
+  onward : {k b : ℕ} (s : ℕ) → s < S .ways → word-in S T b s ≢ 0 → Reach S T k (hop S T b s) → Reach S T (suc k) b
 
 module _ (S : Layout) where
   -- the destination's bucket has a free slot before the move
@@ -48,18 +48,18 @@ module _ (S : Layout) where
     edge l e = ap₂ (λ x c. S .other (tag (getD T x 0)) c) e (in-bucket h e) ∙ sym (l .goes)
 
   back : {T : List ℕ} {m : Move} {k b : ℕ} → Legal S T m → Reach S (moved T m) k b → Reach S T (suc k) b
-  back {T} {m} {k} {b} l (here (s, h, f)) =
-      dite (ℕ-discrete b (m .to / S .ways)) (λ e. here {b = b} (rw e (to-free l (omega arith)))) λ away.
+  back {T} {m} {k} {b} l (reached (s, h, f)) =
+      dite (ℕ-discrete b (m .to / S .ways)) (λ e. reached {b = b} (rw e (to-free l (omega arith)))) λ away.
       dite (ℕ-discrete (b * S .ways + s) (m .from))
-      (λ e. step {b = b} s h (rw e (l .held)) (here {b = hop S T b s} (rw (edge T m b s h l e) (to-free l (omega arith)))))
-      λ ne. here (s, h, sym (kept T m b s h away ne) ∙ f)
-  back {T} {m} {k} {b} l (step s h ne r) =
-      dite (ℕ-discrete b (m .to / S .ways)) (λ e. here {b = b} (rw e (to-free l (omega arith)))) λ away.
+      (λ e. onward {b = b} s h (rw e (l .held)) (reached {b = hop S T b s} (rw (edge T m b s h l e) (to-free l (omega arith)))))
+      λ ne. reached (s, h, sym (kept T m b s h away ne) ∙ f)
+  back {T} {m} {k} {b} l (onward s h ne r) =
+      dite (ℕ-discrete b (m .to / S .ways)) (λ e. reached {b = b} (rw e (to-free l (omega arith)))) λ away.
       dite (ℕ-discrete (b * S .ways + s) (m .from)) (λ e. absurd (ne (cleared T m b s h (l .held) e))) λ ne′.
       let same = kept T m b s h away ne′ in
-      step {b = b} s h (λ z. ne (same ∙ z)) (rw (same, hop) at (back l r))
+      onward {b = b} s h (λ z. ne (same ∙ z)) (rw (same, hop) at (back l r))
 
   -- L1
   pub run-reach : {T : List ℕ} (ms : List Move) {b : ℕ} → Run S T ms → Free S (moved-by T ms) b → Reach S T (length ms) b
-  run-reach [] r f = here f
+  run-reach [] r f = reached f
   run-reach (m ∷ ms) r f = back (r .0) (run-reach ms (r .1) f)

@@ -1,5 +1,5 @@
 -- The search says "no room" exactly if no legal moves make room, and what it finds takes the fewest moves. Assumes nothing.
-use Prim.Native.Nat.{ℕ, zero, suc, _*_, _<_, _≤_}
+use Prim.Native.Nat.{ℕ, _*_, _<_, suc, _≤_, zero}
 use native.Mathlib.Omega.{arith}
 use native.Mathlib.Decide.{decLe}
 use mathlib.Core.Path.{_≡_}
@@ -8,10 +8,11 @@ use mathlib.Core.List.{List, List·Memᴰ as Mem}
 use lib.ListN.{length}
 use Rattle.model.specs.Yard.{Layout}
 use Rattle.model.specs.Moves.{moved-by}
+use Rattle.model.specs.AnyTable.{slot}
 use Rattle.model.proofs.Reach.{Reach, run-reach}
 use Rattle.model.proofs.Paths.{AllFull, Fewest, Found, Shut, into, plan}
 use Rattle.model.proofs.Levels.{level-visits, level-walk, reach-level, reach-walk, visits-level, walk-reach}
-use Rattle.model.proofs.Plan.{Done, Short, distinct, done, into-slot, length-plan}
+use Rattle.model.proofs.Plan.{Done, Short, distinct, into-slot, length-plan, plan-done}
 
 module _ (S : Layout) (T : List ℕ) (n : ℕ) (size : length T ≡ n * S .ways) (closed : (t b : ℕ) → b < n → S .other t b < n)
     (bs : List ℕ) (home-in : (b : ℕ) → Mem b bs → b < n) where
@@ -20,7 +21,7 @@ module _ (S : Layout) (T : List ℕ) (n : ℕ) (size : length T ≡ n * S .ways)
   none {d} shut (suc K) k h l b q x =
       let w = reach-walk S T x in
       let r = w .3 .0 in
-      let y = done S T n size closed r (w .3 .1) b (w .0) (home-in b q) (w .2) (w .3 .2) (λ j lt. none shut K j (omega arith) (omega arith) b q) in
+      let y = plan-done S T n size closed r (w .3 .1) b (w .0) (home-in b q) (w .2) (w .3 .2) (λ j lt. none shut K j (omega arith) (omega arith) b q) in
       shut (plan S T b (w .0) r) (omega (arith, length-plan S T b (w .0) r)) (y .run) b q
       (into (w .0) r, into-slot S (w .0) (w .3 .1) (w .2), y .freed)
 
@@ -53,4 +54,4 @@ module _ (S : Layout) (T : List ℕ) (n : ℕ) (size : length T ≡ n * S .ways)
       short c q j l x = let y = reach-level S T bs q x in o .first (y .0) (y .1) (omega arith) (y .3) (y .4)
 
       y : Done S T n size closed r (o .slot) b p (moved-by T (plan S T b p r))
-      y = done S T n size closed r (o .slot) b p (home-in b (o .home)) (o .slots) (o .free) (short b (o .home))
+      y = plan-done S T n size closed r (o .slot) b p (home-in b (o .home)) (o .slots) (o .free) (short b (o .home))

@@ -1,12 +1,11 @@
 -- The computed search is right: it stops within the list exactly if some legal moves make room, and then its moves are the fewest.
 -- Assumes nothing.
-use Prim.Native.Nat.{ℕ, zero, suc, _+_, _-_, _*_, _/_, _%_, _<_, _≤_}
+use Prim.Native.Nat.{ℕ, _+_, _*_, _<_, suc, _≤_, _-_, _%_, _/_, zero}
 use native.Mathlib.Omega.{arith}
 use native.Mathlib.Decide.{ℕ-discrete, decLt}
 use mathlib.Core.Path.{_≡_, refl, subst}
 use mathlib.Core.Logic.{_≢_, _↔_, _⊎_, inl, inr, ⊎-elim, dite}
 use mathlib.Core.List.{List, [], _∷_, List·Memᴰ as Mem, List·Memᴰ·head as head, List·Memᴰ·tail as tail}
-use mathlib.Core.List.{List·Memᴰ·not-nil as not-nil}
 use lib.ListN.{length, getD}
 use borrow.Author.Tests.{lt-ltb, le-ltb, eq-eqb, ne-eqb}
 use Rattle.model.specs.Yard.{Layout}
@@ -15,6 +14,7 @@ use Rattle.model.specs.Visits.{climb, first-free, free-slot, lowest, sea
 use Rattle.model.proofs.Paths.{Shortest, Shut}
 use Rattle.model.proofs.Room.{shut-iff}
 use Rattle.model.proofs.Places.{at-mem, mem-at, shortest}
+use mathlib.Core.List.{List·Memᴰ·not-nil as not-nil}
 
 module _ (S : Layout) (T : List ℕ) where
   -- x is the lowest free slot of b from s on, or e if none is below e
@@ -132,23 +132,23 @@ module _ (S : Layout) (T : List ℕ) (n : ℕ) (size : length T ≡ n * S .ways)
 -- demand 3 for an animal with the homes b and c
 module _ (S : Layout) (T : List ℕ) (n : ℕ) (size : length T ≡ n * S .ways) (closed : (t b : ℕ) → b < n → S .other t b < n)
     (t b : ℕ) (hb : b < n) (d : ℕ) where
-  abbrev pub pair : List ℕ
-  pair = b ∷ S .other t b ∷ []
+  abbrev pub homes-of : List ℕ
+  homes-of = b ∷ S .other t b ∷ []
 
-  pub in-pair : (c : ℕ) → Mem c pair → (c ≡ b) ⊎ (c ≡ S .other t b)
+  pub in-pair : (c : ℕ) → Mem c homes-of → (c ≡ b) ⊎ (c ≡ S .other t b)
   in-pair c (head e) = inl e
   in-pair c (tail (head e)) = inr e
   in-pair c (tail (tail q)) = absurd (not-nil q)
 
-  pub pair-in : (c : ℕ) → Mem c pair → c < n
+  pub pair-in : (c : ℕ) → Mem c homes-of → c < n
   pair-in c q = ⊎-elim (λ e. rw e hb) (λ e. rw e (closed t b hb)) (in-pair c q)
 
-  pub room-iff : (stop S T pair d ≡ length (visit-list S T pair d))
+  pub room-iff : (stop S T homes-of d ≡ length (visit-list S T homes-of d))
       ↔ ((ms : List Move) → length ms ≤ d → Run S T ms → ¬ (Free S (moved-by T ms) b ⊎ Free S (moved-by T ms) (S .other t b)))
   room-iff = (
     λ e ms l r f. ⊎-elim (iff .0 e ms l r b (head refl)) (iff .0 e ms l r (S .other t b) (tail (head refl))) f,
     λ g. iff .1 λ ms l r c q f. g ms l r (⊎-elim (λ e. inl (rw e at f)) (λ e. inr (rw e at f)) (in-pair c q)),
   )
     where
-      iff : (stop S T pair d ≡ length (visit-list S T pair d)) ↔ Shut S T pair d
-      iff = search-none S T n size closed pair pair-in d
+      iff : (stop S T homes-of d ≡ length (visit-list S T homes-of d)) ↔ Shut S T homes-of d
+      iff = search-none S T n size closed homes-of pair-in d

@@ -20,6 +20,7 @@ use Rattle.model.specs.Calls.{Outcome, damage-in, enter-at, enter-block,
 use Rattle.model.specs.Calls.{refuse, set-at, stopped, vacant-place, visited, wounded}
 use Rattle.model.specs.Row.{fill, row-new, row-set}
 use Rattle.model.specs.WellFormed.{WellFormed}
+use Rattle.model.specs.AnyTable.{slot}
 use Rattle.model.proofs.Lawful.{Lawful}
 use Rattle.model.proofs.Paths.{Shortest}
 use Rattle.model.proofs.Search.{in-pair, pair-in, search-some, stop-le}

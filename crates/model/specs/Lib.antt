@@ -13,3 +13,6 @@ pub mod Calls
 pub mod Lent
 pub mod Row
 pub mod WellFormed
+pub mod AnyTable
+pub mod Demands
+pub mod Ours

@@ -1,0 +1,136 @@
+-- The lent table: right lengths are those of a lawful yard, and stores don't change them. Assumes nothing.
+use Prim.Native.Nat.{ℕ, _+_, _*_, _^_, _<_, suc, _≤_, _%_, _/_, zero}
+use native.Mathlib.Nat.{div-add-mod'}
+use native.Mathlib.Omega.{arith}
+use mathlib.Core.Path.{_≡_, refl, sym, ap, _∙_, subst}
+use mathlib.Core.Bool.{Bool, true, false, _&&_}
+use mathlib.Core.List.{List, [], _∷_}
+use lib.ListN.{length, getD, length-set}
+use lib.Dec.{eqb, leb}
+use borrow.Author.Tests.{eqb-true, leb-true}
+use Rattle.model.specs.Choice.{choose}
+use Rattle.model.specs.Memory.{Mem}
+use Rattle.model.specs.Yard.{Yard, good-counters, good-items, good-slots, one-of, right-lengths, sizes, small-sizes, yard-of}
+use Rattle.model.specs.Stores.{Store, apply, apply-all, bump, item-to, slot-to}
+use Rattle.model.specs.Answers.{Call, did, read}
+use Rattle.model.specs.Calls.{Outcome, call, reading, refuse}
+use Rattle.model.specs.Lent.{event-answer, lent-call}
+use Rattle.model.specs.WellFormed.{WellFormed}
+use Rattle.model.proofs.Hash.{Size}
+use Rattle.model.proofs.Lawful.{Lawful, lawful}
+use Rattle.model.proofs.Laws.{bool, true-false}
+
+-- every number of buckets is a power of two
+abbrev pub Sizes : List ℕ → Type 0
+Sizes [] = Unit {0}
+Sizes (n ∷ ns) = Size n × Sizes ns
+
+size-of : (n : ℕ) (ns : List ℕ) → Sizes ns → one-of n ns ≡ true → Size n
+size-of n [] h e = true-false e refl
+size-of n (k ∷ ks) h e =
+    bool (λ b. choose b true (one-of n ks) ≡ true → eqb n k ≡ b → Size n) (eqb n k) (λ t e f. subst Size (sym (eqb-true n k f)) (h .0))
+    (λ t e f. size-of n ks (h .1) e) e refl
+
+-- the powers of two from 2^(k+1) on, n of them
+abbrev powers : ℕ → ℕ → List ℕ
+powers k zero = []
+powers k (suc n) = 2 ^ suc k ∷ powers (suc k) n
+
+powers-sizes : (n k : ℕ) → k + n ≤ 11 → Sizes (powers k n)
+powers-sizes zero k h = tt
+powers-sizes (suc n) k h =
+    (record { log = suc k; low = omega arith; high = omega arith; power = refl }, powers-sizes n (suc k) (omega arith))
+
+pub four-sizes : Sizes sizes
+four-sizes = powers-sizes 11 0 (omega arith)
+
+pub eight-sizes : Sizes small-sizes
+eight-sizes = powers-sizes 10 0 (omega arith)
+
+and-is : (b c : Bool) → (b && c) ≡ true → (b ≡ true) × (c ≡ true)
+and-is true c e = (refl, e)
+and-is false c e = true-false e refl
+
+module _ (w d : ℕ) (ns : List ℕ) (pos : 0 < w) (hs : Sizes ns) where
+  -- what right lengths say
+  pub record Fit (m : Mem) : Type 0 where
+    pub size : Size (length (m .slots) / w)
+    pub slots-fit : length (m .slots) ≡ length (m .slots) / w * w
+    pub some : 0 < length (m .counters)
+    pub items-fit : length (m .items) ≡ 4 * (length (m .items) / 4)
+    pub few : length (m .items) / 4 ≤ 4096
+
+  pub fit : (m : Mem) → right-lengths w d ns m ≡ true → Fit m
+  unfolding right-lengths good-slots good-counters good-items
+  fit m e =
+      let s = length (m .slots) in
+      let v = length (m .counters) in
+      let i = length (m .items) in
+      let a = and-is (eqb (s % w) 0 && one-of (s / w) ns) ((leb 1 v && leb v 1024) && (eqb (i % 4) 0 && (leb 4 i && leb i 16384))) e in
+      let b = and-is (eqb (s % w) 0) (one-of (s / w) ns) (a .0) in
+      let c = and-is (leb 1 v && leb v 1024) (eqb (i % 4) 0 && (leb 4 i && leb i 16384)) (a .1) in
+      let f = and-is (leb 1 v) (leb v 1024) (c .0) in
+      let g = and-is (eqb (i % 4) 0) (leb 4 i && leb i 16384) (c .1) in
+      let h = and-is (leb 4 i) (leb i 16384) (g .1) in
+      record {
+        size = size-of (s / w) ns hs (b .1);
+        slots-fit = omega (arith, div-add-mod' s w, eqb-true (s % w) 0 (b .0));
+        some = leb-true 1 v (f .0);
+        items-fit = omega (arith, eqb-true (i % 4) 0 (g .0));
+        few = omega (arith, leb-true i 16384 (h .1));
+      }
+
+  module _ (m₀ : Mem) (right : right-lengths w d ns m₀ ≡ true) where
+    abbrev Y : Yard
+    Y = yard-of w d ns m₀
+
+    pub law : Lawful Y
+    law =
+        let f = fit m₀ right in
+        lawful w d (length (m₀ .slots) / w) (length (m₀ .counters)) (length (m₀ .items) / 4) (f .size) (f .some) (omega (arith, f .few))
+
+    -- a memory with the same three lengths
+    pub record Alike (m : Mem) : Type 0 where
+      pub slots-same : length (m .slots) ≡ length (m₀ .slots)
+      pub counters-same : length (m .counters) ≡ length (m₀ .counters)
+      pub items-same : length (m .items) ≡ length (m₀ .items)
+
+    pub well-alike : {m : Mem} → WellFormed Y m → Alike m
+    well-alike g =
+        let f = fit m₀ right in
+        record {
+          slots-same = g .slots-long ∙ sym (f .slots-fit);
+          counters-same = g .counters-long;
+          items-same = g .items-long ∙ sym (f .items-fit);
+        }
+
+    store-alike : (s : Store) {m : Mem} → Alike m → Alike (apply s m)
+    store-alike (bump c) {m} a =
+        record {
+          slots-same = a .slots-same;
+          counters-same = length-set (m .counters) c ((getD (m .counters) c 0 + 1) % 2 ^ 32) ∙ a .counters-same;
+          items-same = a .items-same;
+        }
+    store-alike (slot-to i y) {m} a =
+        record { slots-same = length-set (m .slots) i y ∙ a .slots-same; counters-same = a .counters-same; items-same = a .items-same }
+    store-alike (item-to k v) {m} a =
+        record { slots-same = a .slots-same; counters-same = a .counters-same; items-same = length-set (m .items) k v ∙ a .items-same }
+
+    pub stores-alike : (ss : List Store) {m : Mem} → Alike m → Alike (apply-all ss m)
+    stores-alike [] a = a
+    stores-alike (s ∷ ss) {m} a = stores-alike ss {m = apply s m} (store-alike s a)
+
+    module _ {m : Mem} (a : Alike m) where
+      pub alike-right : right-lengths w d ns m ≡ true
+      unfolding right-lengths
+      alike-right = rw (a .slots-same, a .counters-same, a .items-same) right
+
+      alike-yard : yard-of w d ns m ≡ Y
+      alike-yard = rw (a .slots-same, a .counters-same, a .items-same)
+
+      pub alike-call : (c : Call) → lent-call w d ns m c ≡ call Y m c
+      alike-call c = ap (λ b. choose b (call (yard-of w d ns m) m c) (refuse 1)) alike-right ∙ ap (λ Z. call Z m c) alike-yard
+
+      pub alike-reading : (x limit now : ℕ) → event-answer w d ns m (did (read x limit now)) ≡ reading Y m x limit now
+      unfolding reading
+      alike-reading x limit now = ap (λ (o : Outcome). o .answer) (alike-call (read x limit now))
