@@ -28,3 +28,5 @@ pub mod Trace
 pub mod Demand1
 pub mod OnWellFormed
 pub mod Demands
+pub mod Never
+pub mod Paper

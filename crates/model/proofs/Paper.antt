@@ -1,0 +1,44 @@
+-- The paper's number and values tell every answer apart. Assumes nothing.
+use Prim.Native.Nat.{ℕ, suc, zero}
+use mathlib.Core.Path.{_≡_, refl, sym, ap, _∙_}
+use mathlib.Core.List.{List, [], _∷_}
+use lib.ListN.{getD, drop}
+use Rattle.model.specs.Answers.{Answer, Paper, absent, ahead, at-place, deleted, evicted, fresh, listed, old, paper, refused, started}
+use Rattle.model.specs.Answers.{stored}
+
+-- the answer is read back off them
+back-from : ℕ → List ℕ → Answer
+back-from zero vs = absent
+back-from (suc zero) vs = fresh (getD vs 0 0) (getD vs 1 0)
+back-from (suc (suc zero)) vs = old (getD vs 0 0)
+back-from (suc (suc (suc zero))) vs = ahead
+back-from (suc (suc (suc (suc zero)))) vs = stored (getD vs 0 0) (getD vs 1 0)
+back-from (suc (suc (suc (suc (suc zero))))) vs = deleted
+back-from (suc (suc (suc (suc (suc (suc zero)))))) vs = evicted (getD vs 0 0) (getD vs 1 0) (getD vs 2 0)
+back-from (suc (suc (suc (suc (suc (suc (suc zero))))))) vs = started
+back-from (suc (suc (suc (suc (suc (suc (suc (suc zero)))))))) vs = listed (getD vs 0 0) (drop 1 vs)
+back-from (suc (suc (suc (suc (suc (suc (suc (suc (suc n))))))))) vs = at-place (getD vs 0 0)
+
+back : Paper → Answer
+back r = go (r .values)
+  where
+    go : List ℕ → Answer
+    go [] = refused (r .number)
+    go (k ∷ vs) = back-from k vs
+
+read-back : (a : Answer) → back (paper a) ≡ a
+unfolding back back-from
+read-back (refused n) = refl
+read-back absent = refl
+read-back (fresh v a) = refl
+read-back (old a) = refl
+read-back ahead = refl
+read-back (stored v n) = refl
+read-back deleted = refl
+read-back (evicted x n h) = refl
+read-back started = refl
+read-back (listed n bs) = refl
+read-back (at-place p) = refl
+
+pub paper-injective : (a b : Answer) → paper a ≡ paper b → a ≡ b
+paper-injective a b e = sym (read-back a) ∙ ap back e ∙ read-back b
