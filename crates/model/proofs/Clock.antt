@@ -42,7 +42,7 @@ abbrev pub AllLive : List ℕ → List ℕ → Type 0
 AllLive l [] = Unit {0}
 AllLive l (p ∷ ps) = Live l p × AllLive l ps
 
-live-is : (l : List ℕ) (p : ℕ) → live l p ≡ true → Live l p
+pub live-is : (l : List ℕ) (p : ℕ) → live l p ≡ true → Live l p
 live-is l p e z = true-false e (rw (eq-eqb (animal l p) 0 z))
 
 pub live-true : (l : List ℕ) (p : ℕ) → Live l p → live l p ≡ true

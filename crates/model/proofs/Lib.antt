@@ -30,3 +30,5 @@ pub mod OnWellFormed
 pub mod Demands
 pub mod Never
 pub mod Paper
+pub mod Ten
+pub mod Examples

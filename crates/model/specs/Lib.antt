@@ -16,3 +16,4 @@ pub mod WellFormed
 pub mod AnyTable
 pub mod Demands
 pub mod Ours
+pub mod Examples
