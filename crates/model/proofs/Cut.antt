@@ -1,5 +1,5 @@
 -- Reads between two stores. Assumes nothing.
-use Prim.Native.Nat.{ℕ, zero, suc, _+_, _-_, _*_, _%_, _<_, _≤_, min}
+use Prim.Native.Nat.{ℕ, _+_, _*_, _<_, suc, _≤_, _-_, _%_, zero, min}
 use native.Mathlib.Nat.{mod-lt, min-comm}
 use native.Mathlib.Omega.{arith}
 use native.Mathlib.Decide.{ℕ-discrete, decLe}
@@ -7,14 +7,15 @@ use mathlib.Core.Path.{_≡_, refl, sym, ap, _∙_, subst}
 use mathlib.Core.Logic.{_≢_, _⊎_, inl, inr, ⊎-elim, dite}
 use mathlib.Core.Option.{Option}
 use mathlib.Core.List.{List, [], _∷_, append-nil}
-use lib.ListN.{length, getD, take, length-append}
-use lib.Seq.{take-nil, getD-set-same, take-append-le, take-all}
+use lib.ListN.{length, getD, length-append, take}
+use lib.Seq.{getD-set-same, take-nil, take-append-le, take-all}
 use borrow.Author.Tests.{eq-eqb, ne-eqb}
+use lib.Ieee.{odd}
 use Rattle.model.specs.Choice.{choose}
 use Rattle.model.specs.Memory.{Mem, animal, place, word}
 use Rattle.model.specs.Yard.{Yard, counter-at, counter-of}
-use Rattle.model.specs.Stores.{Block, Store, apply, apply-all, bump, counted, enter, item-to, move, recency, remove, slot-to, stores, stores-of}
-use Rattle.model.specs.Stores.{update, whole, wholes}
+use Rattle.model.specs.Stores.{Block, Store, apply, apply-all, bump, counted, enter, item-to, move, recency, remove, slot-to, stores}
+use Rattle.model.specs.Stores.{stores-of, update, whole, wholes}
 use Rattle.model.specs.Answers.{Answer, refused}
 use Rattle.model.specs.Age.{bad-time, judge}
 use Rattle.model.specs.Calls.{Outcome, asked, busy, hit, hurt, place-at, reading, tell}

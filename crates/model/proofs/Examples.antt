@@ -4,7 +4,7 @@ use mathlib.Core.Path.{_≡_, refl}
 use Rattle.model.specs.Choice.{first, range}
 use Rattle.model.specs.Memory.{damaged, place, tag}
 use Rattle.model.specs.Hash.{bytes, fnv, fnv-step, hash, odd-up, other-bucket, spread, tag-from}
-use Rattle.model.specs.Yard.{good-counters, good-items, good-slots, right-lengths}
+use Rattle.model.specs.Yard.{good-counters, good-items, good-lengths, good-slots}
 use Rattle.model.specs.Visits.{climb, first-free, free-slot, hops, lowest, next-level, sum-of-powers, visits}
 use Rattle.model.specs.Age.{age, is-fresh, verdict}
 use Rattle.model.specs.Clock.{next-hand, passed-recent, seek-victim}
@@ -13,7 +13,7 @@ use Rattle.model.specs.Examples.{all-said, all-written, examples}
 
 -- the definitions say what the document says, in every row
 pub examples-hold : all-said examples ≡ all-written examples
-unfolding hash fnv fnv-step bytes tag-from odd-up spread other-bucket tag place damaged range first right-lengths good-slots good-counters good-items hits hit vacant-place some-live visits next-level hops first-free free-slot lowest climb is-fresh age verdict next-hand seek-victim passed-recent slot-of
+unfolding hash fnv fnv-step bytes tag-from odd-up spread other-bucket tag place damaged range first good-lengths good-slots good-counters good-items hits hit vacant-place some-live visits next-level hops first-free free-slot lowest climb is-fresh age verdict next-hand seek-victim passed-recent slot-of
 examples-hold = refl
 
 -- the visit list has 682 buckets for four ways and four moves, and 1,170 for eight ways and three

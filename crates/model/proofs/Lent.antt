@@ -10,7 +10,8 @@ use lib.Dec.{eqb, leb}
 use borrow.Author.Tests.{eqb-true, leb-true}
 use Rattle.model.specs.Choice.{choose}
 use Rattle.model.specs.Memory.{Mem}
-use Rattle.model.specs.Yard.{Yard, good-counters, good-items, good-slots, one-of, right-lengths, sizes, small-sizes, yard-of}
+use Rattle.model.specs.Yard.{Yard, good-counters, good-items, good-lengths, good-slots, one-of, right-lengths, sizes, small-sizes}
+use Rattle.model.specs.Yard.{yard-of}
 use Rattle.model.specs.Stores.{Store, apply, apply-all, bump, item-to, slot-to}
 use Rattle.model.specs.Answers.{Call, did, read}
 use Rattle.model.specs.Calls.{Outcome, call, reading, refuse}
@@ -61,7 +62,7 @@ module _ (w d : ℕ) (ns : List ℕ) (pos : 0 < w) (hs : Sizes ns) where
     pub few : length (m .items) / 4 ≤ 4096
 
   pub fit : (m : Mem) → right-lengths w d ns m ≡ true → Fit m
-  unfolding right-lengths good-slots good-counters good-items
+  unfolding good-lengths good-slots good-counters good-items
   fit m e =
       let s = length (m .slots) in
       let v = length (m .counters) in
@@ -122,7 +123,6 @@ module _ (w d : ℕ) (ns : List ℕ) (pos : 0 < w) (hs : Sizes ns) where
 
     module _ {m : Mem} (a : Alike m) where
       pub alike-right : right-lengths w d ns m ≡ true
-      unfolding right-lengths
       alike-right = rw (a .slots-same, a .counters-same, a .items-same) right
 
       alike-yard : yard-of w d ns m ≡ Y

@@ -10,14 +10,14 @@ use lib.ListN.{length, take}
 use lib.Dec.{eqb}
 use borrow.Author.Tests.{eq-eqb, eqb-true, eqb-false}
 use Rattle.model.specs.Choice.{any, choose, first}
-use Rattle.model.specs.Memory.{Mem, animal}
+use Rattle.model.specs.Memory.{Mem, animal, damage-at}
 use Rattle.model.specs.Yard.{Home, Yard, bucket, counter-of, pair, slots-of}
 use Rattle.model.specs.Stores.{Block, update, whole, wholes}
 use Rattle.model.specs.Moves.{Move, Run, moved, moved-by}
 use Rattle.model.specs.Visits.{stop-slot}
 use Rattle.model.specs.Answers.{refused, stored}
-use Rattle.model.specs.Calls.{Outcome, damage-in, enter-at, enter-block, enter-blocks, final-slot, move-block, move-blocks, planned}
-use Rattle.model.specs.Calls.{refuse, set-at, stopped, vacant-place, visited, wounded}
+use Rattle.model.specs.Calls.{Outcome, enter-at, enter-block, enter-blocks, final-slot, move-block, move-blocks, planned, refuse}
+use Rattle.model.specs.Calls.{set-at, stopped, vacant-place, visited, wounded}
 use Rattle.model.specs.Row.{fill, row-new, row-set}
 use Rattle.model.specs.WellFormed.{WellFormed}
 use Rattle.model.specs.AnyTable.{slot}
@@ -56,7 +56,7 @@ module _ (Y : Yard) (L : Lawful Y) (m : Mem) (g : WellFormed Y m) (x : ℕ) wher
   -- no word is damaged, so the search meets no damage
   pub not-wounded : wounded Y m x ≡ false
   not-wounded =
-      none-there (λ b. damage-in Y m (slots-of Y b)) (λ b. none-hurt Y m (g .undamaged) (slots-of Y b))
+      none-there (λ b. damage-at (Y .places) (m .slots) (slots-of Y b)) (λ b. none-hurt Y m (g .undamaged) (slots-of Y b))
       (take (stopped Y m x + 1) (visited Y m x))
 
   -- the search stops before the end of the visit list: what it finds

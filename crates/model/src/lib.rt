@@ -1,1 +1,47 @@
-// The meaning of document 01 stands in specs/, the proofs of the demands in proofs/. Here are only the types that all crates share.
+// The types that every crate shares: what each call answers. The meaning of document 01 stands in specs/, the proofs in proofs/.
+
+// Read and serve.
+pub enum Reading {
+    Absent,
+    Fresh { permission: u32, age: u64 },
+    Old { age: u64 },
+    Ahead,
+    Refused(u32),
+}
+
+// Find: the place of the animal.
+pub enum Finding {
+    Absent,
+    At(usize),
+    Refused(u32),
+}
+
+// Set: the buckets visited and the moves made.
+pub enum Setting {
+    Stored { visits: usize, moves: usize },
+    Refused(u32),
+}
+
+// Delete.
+pub enum Deleting {
+    Deleted,
+    Refused(u32),
+}
+
+// Evict: the victim's number and the places looked at. The hand comes back beside it.
+pub enum Evicting {
+    Evicted { victim: u64, looked: usize },
+    Refused(u32),
+}
+
+// The list: how many records were written.
+pub enum Listing {
+    Listed(usize),
+    Refused(u32),
+}
+
+// Fresh.
+pub enum Starting {
+    Started,
+    Refused(u32),
+}

@@ -1,0 +1,72 @@
+-- What each case of the code's answers says: one of document 01's answers, and so the paper's number and values. Assumes nothing.
+use Prim.Native.Nat.{ℕ, _*_}
+use mathlib.Core.List.{List, _++_}
+use lib.ListN.{length, take, drop}
+use Rattle.model.specs.Answers.{Answer, refused, absent, fresh, old, ahead, stored, deleted, evicted, started, listed, at-place}
+use Rattle.model.specs.declared.Reading.{Reading}
+use Rattle.model.specs.declared.Reading.the-variants as reading
+use Rattle.model.specs.declared.Finding.{Finding}
+use Rattle.model.specs.declared.Finding.the-variants as finding
+use Rattle.model.specs.declared.Setting.{Setting}
+use Rattle.model.specs.declared.Setting.the-variants as setting
+use Rattle.model.specs.declared.Deleting.{Deleting}
+use Rattle.model.specs.declared.Deleting.the-variants as deleting
+use Rattle.model.specs.declared.Evicting.{Evicting}
+use Rattle.model.specs.declared.Evicting.the-variants as evicting
+use Rattle.model.specs.declared.Listing.{Listing}
+use Rattle.model.specs.declared.Listing.the-variants as list
+use Rattle.model.specs.declared.Starting.{Starting}
+use Rattle.model.specs.declared.Starting.the-variants as starting
+
+-- read and serve
+abbrev pub said-reading : Reading → Answer
+said-reading reading.Absent = absent
+said-reading (reading.Fresh v a) = fresh v a
+said-reading (reading.Old a) = old a
+said-reading reading.Ahead = ahead
+said-reading (reading.Refused n) = refused n
+
+-- find
+abbrev pub said-finding : Finding → Answer
+said-finding finding.Absent = absent
+said-finding (finding.At p) = at-place p
+said-finding (finding.Refused n) = refused n
+
+-- set
+abbrev pub said-setting : Setting → Answer
+said-setting (setting.Stored v n) = stored v n
+said-setting (setting.Refused n) = refused n
+
+-- delete
+abbrev pub said-deleting : Deleting → Answer
+said-deleting deleting.Deleted = deleted
+said-deleting (deleting.Refused n) = refused n
+
+-- evict, with the hand that came back
+abbrev pub said-evicting : Evicting → ℕ → Answer
+said-evicting (evicting.Evicted x n) h = evicted x n h
+said-evicting (evicting.Refused n) h = refused n
+
+-- the list, with the buffer afterwards: 20 bytes a record
+abbrev pub said-listing : Listing → List ℕ → Answer
+said-listing (list.Listed n) buffer = listed n (take (20 * n) buffer)
+said-listing (list.Refused n) buffer = refused n
+
+-- fresh
+abbrev pub said-starting : Starting → Answer
+said-starting starting.Started = started
+said-starting (starting.Refused n) = refused n
+
+-- the buffer after the list: its bytes in front, and what stood behind them as it was
+abbrev pub listed-into : Answer → List ℕ → List ℕ
+listed-into (refused n) buffer = buffer
+listed-into absent buffer = buffer
+listed-into (fresh v a) buffer = buffer
+listed-into (old a) buffer = buffer
+listed-into ahead buffer = buffer
+listed-into (stored v n) buffer = buffer
+listed-into deleted buffer = buffer
+listed-into (evicted x n h) buffer = buffer
+listed-into started buffer = buffer
+listed-into (listed n bs) buffer = bs ++ drop (length bs) buffer
+listed-into (at-place p) buffer = buffer
