@@ -39,10 +39,11 @@ module _ (w d : ℕ) (ns : List ℕ) (pos : 0 < w) (hs : Sizes ns) where
         (sym (started-again w d ns pos hs (s .memory) (s .right) m (h .0)))
         (along es t (fresh-memory Z) (replicate (4 * Z .places) 0) (fresh-well Z, refl))
     along (did c ∷ es) t m l h =
-        along es (t .1) (leaves O m (did c)) (row-call (Z .places) (no-room (O .answer m (did c))) l c .words)
-        (well-on w d ns pos hs (s .memory) (s .right) m (h .0) c (t .0),
-        words-on w d ns pos hs (s .memory) (s .right) m (h .0) c (t .0)
-        ∙ ap (λ l. row-call (Z .places) (no-room (O .answer m (did c))) l c .words) (h .1))
+        along es (t .1) (leaves O m (did c)) (row-call (Z .places) (no-room (O .answer m (did c))) l c .words) (
+          well-on w d ns pos hs (s .memory) (s .right) m (h .0) c (t .0),
+          words-on w d ns pos hs (s .memory) (s .right) m (h .0) c (t .0)
+              ∙ ap (λ l. row-call (Z .places) (no-room (O .answer m (did c))) l c .words) (h .1),
+        )
 
     -- fresh begins it
     pub opened : leaves O (s .memory) make-fresh ≡ fresh-memory Z

@@ -1,24 +1,17 @@
 -- Laws of the hash, the tag, the spread and the other bucket. Assumes nothing.
-use mathlib.Core.Path.{_≡_, refl, sym, ap, ap₂, _∙_, subst}
+use Prim.Native.Nat.{ℕ, _+_, _*_, _^_, _<_, suc, _≤_, _%_, _/_, zero}
+use native.Mathlib.Nat.{div-add-mod', mod-lt, pow-suc}
+use native.Mathlib.Omega.{arith}
+use native.Mathlib.Decide.{ℕ-discrete}
+use mathlib.Core.Path.{_≡_, refl, sym, ap, _∙_, subst, ap₂}
 use mathlib.Core.Logic.{_⊎_, inl, inr, ⊎-elim, dite}
 use mathlib.Core.List.{List, [], _∷_}
-use native.Mathlib.Decide.{ℕ-discrete}
-use Prim.Native.Nat.{ℕ, zero, suc, _+_, _*_, _/_, _%_, _^_, _≤_, _<_}
-use native.Mathlib.Omega.{arith}
-use native.Mathlib.Nat.{mod-lt, pow-suc, div-add-mod'}
 use lib.Arith.{bin-ind}
 use lib.Bits.{bitXor, differ, xor-step, xor-self, xor-lt, xor-zero-l}
+use lib.Pow.{pow-pos, pow-mono}
 use lib.Dec.{lit<}
-use lib.Pow.{pow-pos}
 use borrow.Author.Tests.{eq-eqb, ne-eqb}
-use Rattle.model.specs.Hash.{bytes, fnv, fnv-step, hash, odd-up, other-bucket, spread, tag-from}
-
--- a number of buckets: a power of two from 2 to 2,048
-pub record Size (n : ℕ) : Type 0 where
-  pub log : ℕ
-  pub low : 1 ≤ log
-  pub high : log ≤ 11
-  pub power : n ≡ 2 ^ log
+use Rattle.model.specs.Hash.{Size, bytes, fnv, fnv-step, hash, odd-up, other-bucket, spread, tag-from}
 
 two : (x : ℕ) → x < 2 → (x ≡ 0) ⊎ (x ≡ 1)
 two zero h = inl refl
@@ -82,6 +75,9 @@ power-even (suc k) h = let p : 0 < 2 ^ k = pow-pos k in rw (pow-suc 2 k) (omega 
 
 pub size-pos : {n : ℕ} → Size n → 2 ≤ n
 size-pos s = rw (s .power) (power-even (s .log) (s .low) .0)
+
+pub size-most : {n : ℕ} → Size n → n ≤ 2048
+size-most s = rw (s .power) (pow-mono (s .high))
 
 pub size-even : {n : ℕ} → Size n → n % 2 ≡ 0
 size-even s = rw (s .power) (power-even (s .log) (s .low) .1)

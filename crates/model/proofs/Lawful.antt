@@ -1,11 +1,11 @@
 -- What the arguments need of a yard's numbers, and that document 01's rules give it. Assumes nothing.
 use Prim.Native.Nat.{ℕ, _<_, _≤_}
-use native.Mathlib.Omega.{arith}
 use native.Mathlib.Nat.{mod-lt}
+use native.Mathlib.Omega.{arith}
 use mathlib.Core.Path.{_≡_}
-use Rattle.model.specs.Hash.{hash}
+use Rattle.model.specs.Hash.{Size, hash}
 use Rattle.model.specs.Yard.{Yard, yard}
-use Rattle.model.proofs.Hash.{Size, hash-lt, other-lt, other-twice, size-pos, tag-range}
+use Rattle.model.proofs.Hash.{hash-lt, other-lt, other-twice, size-pos, tag-range}
 
 pub record Lawful (Y : Yard) : Type 0 where
   pub tag-low : (x : ℕ) → 1 ≤ Y .tag-of x

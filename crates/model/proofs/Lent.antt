@@ -4,12 +4,15 @@ use native.Mathlib.Nat.{div-add-mod'}
 use native.Mathlib.Omega.{arith}
 use mathlib.Core.Path.{_≡_, refl, sym, ap, _∙_, subst}
 use mathlib.Core.Bool.{Bool, true, false, _&&_}
+use mathlib.Core.Option.{some}
 use mathlib.Core.List.{List, [], _∷_}
 use lib.ListN.{length, getD, length-set}
 use lib.Dec.{eqb, leb}
 use borrow.Author.Tests.{eqb-true, leb-true}
+use lib.Ieee.{size}
 use Rattle.model.specs.Choice.{choose}
 use Rattle.model.specs.Memory.{Mem}
+use Rattle.model.specs.Hash.{Size}
 use Rattle.model.specs.Yard.{Yard, good-counters, good-items, good-lengths, good-slots, one-of, right-lengths, sizes, small-sizes}
 use Rattle.model.specs.Yard.{yard-of}
 use Rattle.model.specs.Stores.{Store, apply, apply-all, bump, item-to, slot-to}
@@ -17,8 +20,8 @@ use Rattle.model.specs.Answers.{Call, did, read}
 use Rattle.model.specs.Calls.{Outcome, call, reading, refuse}
 use Rattle.model.specs.Lent.{event-answer, lent-call}
 use Rattle.model.specs.WellFormed.{WellFormed}
-use Rattle.model.proofs.Hash.{Size}
 use Rattle.model.proofs.Lawful.{Lawful, lawful}
+use Rattle.model.proofs.Search.{few}
 use Rattle.model.proofs.Laws.{bool, true-false}
 
 -- every number of buckets is a power of two
