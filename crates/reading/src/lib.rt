@@ -1,0 +1,145 @@
+// Read, serve and find: the eight home slots of an animal, judged and compared once.
+ghost use mathlib.Core.Path.{_≡_};
+ghost use mathlib.Core.List.{List, [], _∷_};
+ghost use Prim.Native.Nat.{ℕ, _+_, _*_, _/_, _%_, _<_, _≤_};
+ghost use lib.ListN.{length, getD, set};
+ghost use Rattle.model.specs.Choice.{any, first};
+ghost use Rattle.model.specs.Memory.{mem, damaged, permission, stamp};
+ghost use Rattle.model.specs.Yard.{sizes, right-lengths, yard-of, counter-of};
+ghost use Rattle.model.specs.Answers.{read, serve, find};
+ghost use Rattle.model.specs.Age.{verdict, bad-time};
+ghost use Rattle.model.specs.Calls.{busy, hurt};
+ghost use Rattle.model.specs.Lent.{lent-call};
+ghost use Rattle.model.specs.Said.{said-reading, said-finding};
+ghost use Rattle.reading.specs.Look.{words-of, home-words, tag-sum, leads, found-word, first-of};
+
+
+// The word at i, 0 outside: what the definitions read there.
+pub fn get64(s: &[u64], i: usize) -> u64
+    ensures { λ r. ⌜ r ≡ getD (now (s .entry)) i 0 ⌝ }
+{
+    if i < s.len() {
+        return s[i];
+    }
+    0
+}
+
+// One eager expression: the eight tests become vector code with one branch.
+pub fn is_damaged(w: u32, m: u32) -> bool
+    ensures { λ r. ⌜ r ≡ damaged m w ⌝ }
+{
+    (w != 0) & (((w / 65536 == 0) | (255 < w / 65536)) | (m <= w % 65536))
+}
+
+// The words of the eight home slots, first bucket first.
+pub struct Eight {
+    pub w0: u32,
+    pub w1: u32,
+    pub w2: u32,
+    pub w3: u32,
+    pub w4: u32,
+    pub w5: u32,
+    pub w6: u32,
+    pub w7: u32,
+}
+
+// Requires the buckets to lie in the run: the reader's hot path then has no bounds check.
+pub fn home_words_of(slots: &[u32], first: u32, second: u32) -> Eight
+    requires { ⌜ (first * 4 + 3 < length (now slots)) × (second * 4 + 3 < length (now slots)) ⌝ }
+    ensures { λ r. ⌜ words-of r ≡ home-words (now (slots .entry)) first second ⌝ }
+{
+    let x = (first as usize) * 4;
+    let y = (second as usize) * 4;
+    let w0 = slots[x];
+    let w1 = slots[x + 1];
+    let w2 = slots[x + 2];
+    let w3 = slots[x + 3];
+    let w4 = slots[y];
+    let w5 = slots[y + 1];
+    let w6 = slots[y + 2];
+    let w7 = slots[y + 3];
+    Eight { w0, w1, w2, w3, w4, w5, w6, w7 }
+}
+
+// Refusal 4 looks at all eight words.
+pub fn any_damaged(e: Eight, m: u32) -> bool
+    ensures { λ r. ⌜ r ≡ any (damaged m) (words-of e) ⌝ }
+{
+    let low = is_damaged(e.w4, m) | (is_damaged(e.w5, m) | (is_damaged(e.w6, m) | is_damaged(e.w7, m)));
+    is_damaged(e.w0, m) | (is_damaged(e.w1, m) | (is_damaged(e.w2, m) | (is_damaged(e.w3, m) | low)))
+}
+
+// The word if it has the tag, else 0.
+fn with_tag(w: u32, tag: u32) -> u32
+    requires { ⌜ tag < 256 ⌝ }
+    ensures { λ r. ⌜ (r ≡ tag-sum tag (w ∷ [])) × (r < 16777216) ⌝ }
+{
+    if w / 65536 == tag {
+        return w;
+    }
+    0
+}
+
+// The sum of the words with the tag: where one word has it, the sum is that word.
+fn sum_with_tag(e: Eight, tag: u32) -> u32
+    requires { ⌜ tag < 256 ⌝ }
+    ensures { λ r. ⌜ r ≡ tag-sum tag (words-of e) ⌝ }
+{
+    let a = with_tag(e.w0, tag) + with_tag(e.w1, tag) + with_tag(e.w2, tag) + with_tag(e.w3, tag);
+    a + with_tag(e.w4, tag) + with_tag(e.w5, tag) + with_tag(e.w6, tag) + with_tag(e.w7, tag)
+}
+
+// The word if it has the tag and its place holds the animal's number, else 0.
+fn leading_word(items: &[u64], w: u32, tag: u32, animal: u64) -> u32
+    ensures { λ r. ⌜ r ≡ found-word (first (leads (now (items .entry)) tag animal) (w ∷ [])) ⌝ }
+{
+    if w / 65536 != tag {
+        return 0;
+    }
+    if get64(items, 4 * ((w % 65536) as usize)) != animal {
+        return 0;
+    }
+    w
+}
+
+fn or_else(a: u32, b: u32) -> u32
+    ensures { λ r. ⌜ r ≡ first-of a b ⌝ }
+{
+    if a == 0 {
+        return b;
+    }
+    a
+}
+
+// Slot by slot, where two words or more share the tag.
+fn hit_by_slots(items: &[u64], e: Eight, tag: u32, animal: u64) -> u32
+    requires { ⌜ 1 ≤ tag ⌝ }
+    ensures { λ r. ⌜ r ≡ found-word (first (leads (now (items .entry)) tag animal) (words-of e)) ⌝ }
+{
+    let a7 = leading_word(items, e.w7, tag, animal);
+    let a6 = or_else(leading_word(items, e.w6, tag, animal), a7);
+    let a5 = or_else(leading_word(items, e.w5, tag, animal), a6);
+    let a4 = or_else(leading_word(items, e.w4, tag, animal), a5);
+    let a3 = or_else(leading_word(items, e.w3, tag, animal), a4);
+    let a2 = or_else(leading_word(items, e.w2, tag, animal), a3);
+    let a1 = or_else(leading_word(items, e.w1, tag, animal), a2);
+    or_else(leading_word(items, e.w0, tag, animal), a1)
+}
+
+// The word of the hit, or 0: no word of a hit is 0, because no tag is.
+pub fn hit_word(items: &[u64], e: Eight, tag: u32, animal: u64) -> u32
+    requires { ⌜ (1 ≤ tag) × (tag < 256) ⌝ }
+    ensures { λ r. ⌜ r ≡ found-word (first (leads (now (items .entry)) tag animal) (words-of e)) ⌝ }
+{
+    let w = sum_with_tag(e, tag);
+    if w == 0 {
+        return 0;
+    }
+    if w / 65536 == tag {
+        if get64(items, 4 * ((w % 65536) as usize)) == animal {
+            return w;
+        }
+        return 0;
+    }
+    hit_by_slots(items, e, tag, animal)
+}
