@@ -61,6 +61,7 @@ module _ (w d : ℕ) (ns : List ℕ) (pos : 0 < w) (hs : Sizes ns) where
     pub size : Size (length (m .slots) / w)
     pub slots-fit : length (m .slots) ≡ length (m .slots) / w * w
     pub some : 0 < length (m .counters)
+    pub few-counters : length (m .counters) ≤ 1024
     pub items-fit : length (m .items) ≡ 4 * (length (m .items) / 4)
     pub few : length (m .items) / 4 ≤ 4096
 
@@ -80,6 +81,7 @@ module _ (w d : ℕ) (ns : List ℕ) (pos : 0 < w) (hs : Sizes ns) where
         size = size-of (s / w) ns hs (b .1);
         slots-fit = omega (arith, div-add-mod' s w, eqb-true (s % w) 0 (b .0));
         some = leb-true 1 v (f .0);
+        few-counters = leb-true v 1024 (f .1);
         items-fit = omega (arith, eqb-true (i % 4) 0 (g .0));
         few = omega (arith, leb-true i 16384 (h .1));
       }

@@ -1,13 +1,17 @@
 -- What the code looks at: the words of the eight home slots. Assumes nothing.
-use Prim.Native.Nat.{ℕ, zero, suc, _+_, _*_}
-use mathlib.Core.Bool.{Bool, false}
+use Prim.Native.Nat.{ℕ, _+_, _*_, _<_, _≤_}
+use mathlib.Core.Path.{_≡_}
+use mathlib.Core.Logic.{_≢_}
+use mathlib.Core.Bool.{Bool, true, false}
 use mathlib.Core.Option.{Option, none, some}
 use mathlib.Core.List.{List, [], _∷_}
-use lib.ListN.{getD}
+use lib.ListN.{length, getD}
 use lib.Dec.{eqb}
 use Rattle.model.specs.Choice.{choose}
-use Rattle.model.specs.Memory.{tag, place, animal}
+use Rattle.model.specs.Memory.{Mem, animal, place, tag}
+use Rattle.model.specs.Yard.{counter-of, right-lengths, second-of, sizes, yard-of}
 use Rattle.reading.specs.declared.Eight.{Eight}
+use Rattle.hashing.specs.declared.Homes.{Homes}
 
 -- eight words in order
 abbrev pub words-of : Eight → List ℕ
@@ -36,3 +40,25 @@ found-word (some w) = w
 -- a, or b if a is 0
 abbrev pub first-of : ℕ → ℕ → ℕ
 first-of a b = choose (eqb a 0) b a
+
+-- refusals 1, 2 and 3 in their turn: good says whether the lengths are, x is the animal, bad whether the time is out of range
+abbrev pub early : Bool → ℕ → Bool → ℕ
+early good x bad = choose good (choose (eqb x 0) 2 (choose bad 3 0)) 1
+
+-- none of them is due
+pub record Passed (m : Mem) (x : ℕ) (bad : Bool) : Type 0 where
+  pub lengths : right-lengths 4 4 sizes m ≡ true
+  pub real : x ≢ 0
+  pub timely : bad ≡ false
+
+-- the four numbers of animal x in the memory m, and that they lie in its runs
+pub record HomesIn (m : Mem) (x : ℕ) (r : Homes) : Type 0 where
+  pub tag-is : r .tag ≡ yard-of 4 4 sizes m .tag-of x
+  pub first-is : r .first ≡ yard-of 4 4 sizes m .first-of x
+  pub second-is : r .second ≡ second-of (yard-of 4 4 sizes m) x
+  pub counter-is : r .counter ≡ counter-of (yard-of 4 4 sizes m) x
+  pub tag-low : 1 ≤ r .tag
+  pub tag-high : r .tag < 256
+  pub first-in : r .first * 4 + 3 < length (m .slots)
+  pub second-in : r .second * 4 + 3 < length (m .slots)
+  pub counter-in : r .counter < length (m .counters)

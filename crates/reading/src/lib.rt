@@ -3,15 +3,19 @@ ghost use mathlib.Core.Path.{_≡_};
 ghost use mathlib.Core.List.{List, [], _∷_};
 ghost use Prim.Native.Nat.{ℕ, _+_, _*_, _/_, _%_, _<_, _≤_};
 ghost use lib.ListN.{length, getD, set};
+ghost use lib.Dec.{eqb};
+ghost use mathlib.Core.Bool.{true};
 ghost use Rattle.model.specs.Choice.{any, first};
 ghost use Rattle.model.specs.Memory.{mem, damaged, permission, stamp};
-ghost use Rattle.model.specs.Yard.{sizes, right-lengths, yard-of, counter-of};
+ghost use Rattle.model.specs.Yard.{sizes, good-lengths, right-lengths};
 ghost use Rattle.model.specs.Answers.{read, serve, find};
 ghost use Rattle.model.specs.Age.{verdict, bad-time};
-ghost use Rattle.model.specs.Calls.{busy, hurt};
 ghost use Rattle.model.specs.Lent.{lent-call};
 ghost use Rattle.model.specs.Said.{said-reading, said-finding};
-ghost use Rattle.reading.specs.Look.{words-of, home-words, tag-sum, leads, found-word, first-of};
+ghost use Rattle.reading.specs.Look.{words-of, home-words, tag-sum, leads, found-word, first-of, early, Passed, HomesIn};
+
+use hashing::Homes;
+use model::Reading;
 
 
 // The word at i, 0 outside: what the definitions read there.
@@ -142,4 +146,109 @@ pub fn hit_word(items: &[u64], e: Eight, tag: u32, animal: u64) -> u32
         return 0;
     }
     hit_by_slots(items, e, tag, animal)
+}
+
+// Refusals 1, 2 and 3, in this order; 0 if none is given.
+pub fn refused_early(s: usize, v: usize, i: usize, animal: u64, bad: bool) -> u32
+    ensures { λ r. ⌜ r ≡ early (good-lengths 4 4 sizes s v i) animal bad ⌝ }
+{
+    let good = hashing::lengths_are_good(s, v, i);
+    if !good {
+        return 1;
+    }
+    if animal == 0 {
+        return 2;
+    }
+    if bad {
+        return 3;
+    }
+    0
+}
+
+// The limit or the minute is out of range.
+pub fn is_bad_time(limit: u64, minute: u64) -> bool
+    ensures { λ r. ⌜ r ≡ bad-time limit minute ⌝ }
+{
+    (10080 < limit) | (minute == 18446744073709551615)
+}
+
+// An animal's tag, buckets and counter in a table of good lengths: the callers have refused any other.
+pub fn homes_in(slots: &[u32], counters: &[u32], items: &[u64], animal: u64) -> Homes
+    requires { ⌜ right-lengths 4 4 sizes (mem (now slots) (now counters) (now items)) ≡ true ⌝ }
+    ensures { λ r. ⌜ HomesIn (mem (now (slots .entry)) (now (counters .entry)) (now (items .entry))) animal r ⌝ }
+{
+    let n = (slots.len() / 4) as u32;
+    let v = counters.len() as u32;
+    hashing::homes_of(animal, n, v)
+}
+
+// Busy: the counter is odd.
+pub fn is_odd(counters: &[u32], c: u32) -> bool
+    requires { ⌜ c < length (now counters) ⌝ }
+    ensures { λ r. ⌜ r ≡ eqb (getD (now (counters .entry)) c 0 % 2) 1 ⌝ }
+{
+    counters[c as usize] % 2 == 1
+}
+
+// What is said of a permission and its stamp.
+fn judged(permission: u64, stamp: u64, limit: u64, minute: u64) -> Reading
+    ensures { λ r. ⌜ said-reading r ≡ verdict limit minute permission stamp ⌝ }
+{
+    let told = (permission % 4294967296) as u32;
+    if stamp == 18446744073709551615 {
+        return Reading::Fresh { permission: told, age: 0 };
+    }
+    if minute < stamp {
+        return Reading::Ahead;
+    }
+    let age = minute - stamp;
+    if age <= limit {
+        return Reading::Fresh { permission: told, age };
+    }
+    Reading::Old { age }
+}
+
+// The place of the hit is judged by its permission and stamp.
+fn judged_at(items: &[u64], place: u32, limit: u64, minute: u64) -> Reading
+    ensures { λ r. ⌜ said-reading r ≡ verdict limit minute (permission (now (items .entry)) place) (stamp (now (items .entry)) place) ⌝ }
+{
+    let at = 4 * (place as usize);
+    judged(get64(items, at + 1), get64(items, at + 2), limit, minute)
+}
+
+// A read where no early refusal is due.
+fn read_good(slots: &[u32], counters: &[u32], items: &[u64], animal: u64, limit: u64, minute: u64) -> Reading
+    requires { ⌜ Passed (mem (now slots) (now counters) (now items)) animal (bad-time limit minute) ⌝ }
+    ensures {
+        λ r. ⌜ said-reading r
+        ≡ lent-call 4 4 sizes (mem (now (slots .entry)) (now (counters .entry)) (now (items .entry))) (read animal limit minute) .answer ⌝
+    }
+{
+    let h = homes_in(slots, counters, items, animal);
+    if is_odd(counters, h.counter) {
+        return Reading::Refused(8);
+    }
+    let e = home_words_of(slots, h.first, h.second);
+    let m = (items.len() / 4) as u32;
+    if any_damaged(e, m) {
+        return Reading::Refused(4);
+    }
+    let w = hit_word(items, e, h.tag, animal);
+    if w == 0 {
+        return Reading::Absent;
+    }
+    judged_at(items, w % 65536, limit, minute)
+}
+
+pub fn read(slots: &[u32], counters: &[u32], items: &[u64], animal: u64, limit: u64, minute: u64) -> Reading
+    ensures {
+        λ r. ⌜ said-reading r
+        ≡ lent-call 4 4 sizes (mem (now (slots .entry)) (now (counters .entry)) (now (items .entry))) (read animal limit minute) .answer ⌝
+    }
+{
+    let no = refused_early(slots.len(), counters.len(), items.len(), animal, is_bad_time(limit, minute));
+    if no != 0 {
+        return Reading::Refused(no);
+    }
+    read_good(slots, counters, items, animal, limit, minute)
 }
