@@ -1,0 +1,112 @@
+-- What a caller may know of what was found: where it is and how many places were looked at. Assumes nothing.
+use Prim.Native.Nat.{ℕ, _+_, _*_, _<_, suc, _≤_, zero}
+use native.Mathlib.Omega.{arith}
+use mathlib.Core.Path.{_≡_, refl, sym, ap, _∙_}
+use mathlib.Core.Option.{Option, none, some}
+use mathlib.Core.List.{List}
+use lib.Dec.{eqb, leb}
+use borrow.Author.Tests.{eqb-true}
+use Rattle.model.specs.Choice.{choose, range}
+use Rattle.model.specs.Memory.{animal, is-recent, live}
+use Rattle.model.specs.Clock.{Victim, next-hand, seek-victim, takes, victim}
+use Rattle.model.specs.Calls.{vacant-place}
+use Rattle.model.specs.WellFormed.{Live}
+use Rattle.model.proofs.Laws.{First, bool, first-is, found, in-range, missing}
+use Rattle.model.proofs.Clock.{Sought, nobody, somebody, sought}
+use Rattle.places.specs.Walks.{scanned, vacancy}
+use Rattle.places.specs.declared.Scan.{Scan}
+use Rattle.places.specs.declared.Scan.the-variants.{Victim as Taken, Nobody}
+use Rattle.places.specs.declared.Vacancy.{Vacancy}
+use Rattle.places.specs.declared.Vacancy.the-variants.{At, Full}
+
+-- a victim was found at no more than k places looked at
+abbrev AtMost : ℕ → Option Victim → Type 0
+AtMost k none = Unit {0}
+AtMost k (some v) = v .looked ≤ k
+
+at-most : (m : ℕ) (l : List ℕ) (f h n : ℕ) → AtMost (n + f) (seek-victim m l f h n)
+unfolding seek-victim
+at-most m l zero h n = tt
+at-most m l (suc f) h n =
+    let e : n + suc f ≡ n + 1 + f = omega arith in
+    let k : n + 1 ≤ n + suc f = omega arith in
+    bool (λ b. AtMost (n + suc f) (choose b (some (record { place = h; looked = n + 1 })) (seek-victim m l f (next-hand m h) (n + 1))))
+    (takes (live l h) (is-recent l h) (leb m n))
+    (λ t. k) λ t. rw e (at-most m l f (next-hand m h) (n + 1))
+
+-- a victim is a live one of m places, and 1 to 2m places were looked at
+pub record Within (m : ℕ) (l : List ℕ) (v : Victim) : Type 0 where
+  pub below : v .place < m
+  pub alive : Live l (v .place)
+  pub looked-some : 1 ≤ v .looked
+  pub looked-most : v .looked ≤ 2 * m
+
+pub victim-within : (m : ℕ) (l : List ℕ) (hand : ℕ) {v : Victim} → hand < m → victim m l hand ≡ some v → Within m l v
+victim-within m l hand {v} hm e = go (sought m l (2 * m) hand 0 hm) (at-most m l (2 * m) hand 0) e
+  where
+    go : {o : Option Victim} → Sought m l 0 o → AtMost (0 + 2 * m) o → o ≡ some v → Within m l v
+    go nobody a e = let z : _≡_ {A = ℕ} 0 1 = cc in absurd (omega arith)
+    go (somebody {v = w} i lv k) a e =
+        let f : w ≡ v = cc in rw (← f) (record { below = i; alive = lv; looked-some = omega arith; looked-most = omega arith })
+
+-- the same of the code's answer
+module _ (m : ℕ) (l : List ℕ) (hand : ℕ) {r : Scan} (e : scanned r ≡ victim m l hand) where
+  pub scan-victim : {p n : ℕ} → r ≡ Taken p n → victim m l hand ≡ some (record { place = p; looked = n })
+  scan-victim q = sym (rw q at e)
+
+  pub scan-nobody : r ≡ Nobody → victim m l hand ≡ none
+  scan-nobody q = sym (rw q at e)
+
+  pub scan-within : {p n : ℕ} → hand < m → r ≡ Taken p n → Within m l (record { place = p; looked = n })
+  scan-within hm q = victim-within m l hand hm (scan-victim q)
+
+-- a vacant place that was found is one of m places and is vacant
+pub record VacantAt (m : ℕ) (l : List ℕ) (p : ℕ) : Type 0 where
+  pub below : p < m
+  pub empty : animal l p ≡ 0
+
+pub vacant-within : (m : ℕ) (l : List ℕ) {p : ℕ} → vacant-place m l ≡ some p → VacantAt m l p
+unfolding vacant-place
+vacant-within m l {p} e = go (first-is (λ q. eqb (animal l q) 0) (range 0 m)) e
+  where
+    go : {o : Option ℕ} → First (λ q. eqb (animal l q) 0) (range 0 m) o → o ≡ some p → VacantAt m l p
+    go (found {i = i} q t) e =
+        let f : i ≡ p = cc in
+        let b = in-range 0 m q in
+        rw (← f) (record { below = omega arith; empty = eqb-true (animal l i) 0 t })
+    go (missing h) e = let z : _≡_ {A = ℕ} 0 1 = cc in absurd (omega arith)
+
+module _ (m : ℕ) (l : List ℕ) {r : Vacancy} (e : vacancy r ≡ vacant-place m l) where
+  pub vacancy-at : {p : ℕ} → r ≡ At p → vacant-place m l ≡ some p
+  vacancy-at q = sym (rw q at e)
+
+  pub vacancy-full : r ≡ Full → vacant-place m l ≡ none
+  vacancy-full q = sym (rw q at e)
+
+  pub vacancy-within : {p : ℕ} → r ≡ At p → VacantAt m l p
+  vacancy-within q = vacant-within m l (vacancy-at q)
+
+-- what the definitions say decides the code's answer: two answers with the same meaning are equal
+scan-of : Option Victim → Scan
+scan-of none = Nobody
+scan-of (some v) = Taken (v .place) (v .looked)
+
+scan-back : (r : Scan) → scan-of (scanned r) ≡ r
+unfolding scan-of
+scan-back (Taken p n) = refl
+scan-back Nobody = refl
+
+pub scan-decided : (r s : Scan) → scanned r ≡ scanned s → r ≡ s
+scan-decided r s e = sym (scan-back r) ∙ ap scan-of e ∙ scan-back s
+
+vacancy-of : Option ℕ → Vacancy
+vacancy-of none = Full
+vacancy-of (some p) = At p
+
+vacancy-back : (r : Vacancy) → vacancy-of (vacancy r) ≡ r
+unfolding vacancy-of
+vacancy-back (At p) = refl
+vacancy-back Full = refl
+
+pub vacancy-decided : (r s : Vacancy) → vacancy r ≡ vacancy s → r ≡ s
+vacancy-decided r s e = sym (vacancy-back r) ∙ ap vacancy-of e ∙ vacancy-back s
