@@ -12,19 +12,16 @@ use lib.Dec.{eqb}
 use borrow.Author.Tests.{lt-ltb, le-ltb, eq-eqb, ne-eqb, eqb-false, le-leb, lt-leb, not-true, not-false}
 use Rattle.hashing.specs.Homes.{HomesAre}
 use Rattle.model.specs.Choice.{any, choose, first, range, there}
-use Rattle.model.specs.Memory.{Mem, animal, damaged, permission, place, stamp, tag, word}
+use Rattle.model.specs.Memory.{Mem, animal, damaged, place, tag, word}
 use Rattle.model.specs.Hash.{Size}
 use Rattle.model.specs.Yard.{Yard, homes, right-lengths, second-of, sizes, yard-of}
-use Rattle.model.specs.Answers.{Answer, absent, ahead, fresh, old, read, refused}
-use Rattle.model.specs.Said.{said-reading}
-use Rattle.model.specs.Age.{age, bad-time, is-fresh, judge, standing, verdict}
-use Rattle.model.specs.Calls.{Outcome, asked, busy, held, hit, hits, hurt, place-at, refuse, tell}
-use Rattle.model.specs.Lent.{lent-call}
+use Rattle.model.specs.Answers.{ahead, fresh, old}
+use Rattle.model.specs.Age.{age, is-fresh, standing, verdict}
+use Rattle.model.specs.Calls.{Outcome, asked, busy, held, hit, hits, hurt, place-at, refuse}
 use Rattle.model.specs.Demands.{places}
 use Rattle.model.proofs.Hash.{size-most}
 use Rattle.model.proofs.Lawful.{Lawful}
 use Rattle.model.proofs.Laws.{First, bool, both-is, first-is, found, missing}
-use Rattle.model.proofs.Calm.{calm}
 use Rattle.model.proofs.Keep.{counter-in}
 use Rattle.model.proofs.Cut.{quiet}
 use Rattle.model.proofs.Lent.{fit, four-sizes, law}
@@ -137,7 +134,7 @@ abbrev pub word-place : ℕ → Option ℕ
 word-place w = choose (eqb w 0) none (some (place w))
 
 module _ (m : Mem) (x : ℕ) where
-  hurt-words : hurt (Y4 m) m x ≡ any (damaged (length (m .items) / 4)) (home-words (m .slots) (Y4 m .first-of x) (second-of (Y4 m) x))
+  pub hurt-words : hurt (Y4 m) m x ≡ any (damaged (length (m .items) / 4)) (home-words (m .slots) (Y4 m .first-of x) (second-of (Y4 m) x))
   hurt-words =
       sym (ap (any (damaged (length (m .items) / 4))) (sym (words-are m x))
       ∙ ap there (first-map (damaged (length (m .items) / 4)) (word m) (homes (Y4 m) x))
@@ -161,7 +158,7 @@ module _ (m : Mem) (x : ℕ) where
       let ne : word m i ≢ 0 = λ z. absurd (omega (arith, law 4 4 sizes (omega arith) four-sizes m right .tag-low x)) in
       rw (ne-eqb (word m i) 0 ne)
 
-  held-word : right-lengths 4 4 sizes m ≡ true
+  pub held-word : right-lengths 4 4 sizes m ≡ true
       → held (Y4 m) m x ≡ word-place (found-word (hit-among (home-words (m .slots) (Y4 m .first-of x) (second-of (Y4 m) x))))
   unfolding hit
   held-word right = hit-tagged right (first-is (hits (Y4 m) m x) (homes (Y4 m) x)) ∙ ap (λ o. word-place (found-word o)) (sym hit-words)
@@ -241,40 +238,3 @@ module _ (limit now v s : ℕ) where
       pub says-old : limit < now - s → old (now - s) ≡ verdict limit now v s
       unfolding verdict is-fresh age
       says-old k = rw (ne-eqb s standing ne, le-leb s now le, lt-leb (now - s) limit k, le-ltb now s le)
-
--- what read says, in the code's words
-module _ (m : Mem) (x limit now : ℕ) where
-  abbrev told : Answer
-  told = lent-call 4 4 sizes m (read x limit now) .answer
-
-  pub read-early : {b : Bool} {n : ℕ} → b ≡ bad-time limit now → n ≡ early (right-lengths 4 4 sizes m) x b → n ≢ 0 → refused n ≡ told
-  read-early {b} {n} eb e nz =
-      sym (ap (λ (o : Outcome). o .answer)
-      (early-outcome (right-lengths 4 4 sizes m) (bad-time limit now) x n (e ∙ ap (early (right-lengths 4 4 sizes m) x) eb) nz m
-      (tell (judge (m .items) limit now (held (Y4 m) m x)))))
-
-  module _ {h : Homes} {b : Bool} (p : Passed m x (bad-time limit now)) (hs : HomesIn m x h) (odd : b ≡ eqb (getD (m .counters) (h .counter) 0 % 2) 1) where
-    abbrev rest : Outcome
-    rest = tell (judge (m .items) limit now (held (Y4 m) m x))
-
-    pub read-busy : b ≡ true → refused 8 ≡ told
-    read-busy e = sym (ap (λ (o : Outcome). o .answer) (by-busy m x p hs rest odd e))
-
-    module _ (calm : b ≡ false) {ws : List ℕ} {k : ℕ} {c : Bool} (words : ws ≡ home-words (m .slots) (h .first) (h .second))
-        (places : k ≡ length (m .items) / 4) (damage : c ≡ any (damaged k) ws) where
-      pub read-hurt : c ≡ true → refused 4 ≡ told
-      read-hurt e = sym (ap (λ (o : Outcome). o .answer) (by-hurt m x p hs rest odd calm words places damage e))
-
-      module _ (sound : c ≡ false) {w : ℕ} (hit-is : w ≡ found-word (first (leads (m .items) (h .tag) x) ws)) where
-        judged-word : told ≡ judge (m .items) limit now (word-place w)
-        judged-word =
-            ap (λ (o : Outcome). o .answer) (by-sound m x p hs rest odd calm words places damage sound)
-            ∙ ap (judge (m .items) limit now) (held-as m x p hs rest odd calm words places damage hit-is)
-
-        pub read-absent : w ≡ 0 → absent ≡ told
-        read-absent z = sym (judged-word ∙ ap (λ b. judge (m .items) limit now (choose b none (some (place w)))) (eq-eqb w 0 z))
-
-        pub read-held : w ≢ 0 → (r : Reading) → said-reading r ≡ verdict limit now (permission (m .items) (w % 65536)) (stamp (m .items) (w % 65536))
-            → said-reading r ≡ told
-        unfolding place
-        read-held nz r e = e ∙ sym (judged-word ∙ ap (λ b. judge (m .items) limit now (choose b none (some (place w)))) (ne-eqb w 0 nz))

@@ -7,11 +7,22 @@ use mathlib.Core.Option.{Option, none, some}
 use mathlib.Core.List.{List, [], _∷_}
 use lib.ListN.{length, getD}
 use lib.Dec.{eqb}
-use Rattle.model.specs.Choice.{choose}
-use Rattle.model.specs.Memory.{Mem, animal, place, tag}
+use Rattle.model.specs.Choice.{choose, first}
+use Rattle.model.specs.Memory.{Mem, animal, mem, place, tag}
 use Rattle.model.specs.Yard.{counter-of, right-lengths, second-of, sizes, yard-of}
+use Rattle.model.specs.Answers.{Call}
+use Rattle.model.specs.Said.{said-reading}
+use Rattle.model.specs.Calls.{busy, hurt}
+use Rattle.model.specs.Lent.{lent-after, lent-call}
+use Rattle.model.specs.AnyTable.{left, slot}
 use Rattle.reading.specs.declared.Eight.{Eight}
 use Rattle.hashing.specs.declared.Homes.{Homes}
+use Rattle.model.specs.declared.Reading.{Reading}
+use Rattle.reading.specs.declared.Look.{Look}
+use Rattle.reading.specs.declared.Look.the-variants as look
+use Rattle.reading.specs.declared.Looked.{Looked}
+use Rattle.reading.specs.declared.Slot.{Slot}
+use Rattle.reading.specs.declared.Slot.the-variants as slot
 
 -- eight words in order
 abbrev pub words-of : Eight → List ℕ
@@ -62,3 +73,30 @@ pub record HomesIn (m : Mem) (x : ℕ) (r : Homes) : Type 0 where
   pub first-in : r .first * 4 + 3 < length (m .slots)
   pub second-in : r .second * 4 + 3 < length (m .slots)
   pub counter-in : r .counter < length (m .counters)
+
+-- serve, of any call that writes the items alone: its answer, and the items afterwards
+pub record Served (m : Mem) (c : Call) (items′ : List ℕ) (r : Reading) : Type 0 where
+  pub told : said-reading r ≡ lent-call 4 4 sizes m c .answer
+  pub left : mem (m .slots) (m .counters) items′ ≡ lent-after 4 4 sizes m c
+
+-- the word of the hit, told as a look
+abbrev pub look-word : ℕ → Look
+look-word w = choose (eqb w 0) look.Absent (look.At w)
+
+-- refusals 8 and 4 in their turn, then the hit
+abbrev pub look-of : Mem → ℕ → Look
+look-of m x =
+    choose (busy (yard-of 4 4 sizes m) m x) (look.Refused 8)
+    (choose (hurt (yard-of 4 4 sizes m) m x) (look.Refused 4)
+    (look-word (found-word
+    (first (leads (m .items) (yard-of 4 4 sizes m .tag-of x) x)
+    (home-words (m .slots) (yard-of 4 4 sizes m .first-of x) (second-of (yard-of 4 4 sizes m) x))))))
+
+pub record LooksUp (m : Mem) (x : ℕ) (r : Looked) : Type 0 where
+  pub look-is : r .look ≡ look-of m x
+  pub homes-are : HomesIn m x (r .homes)
+
+-- a slot that was found
+abbrev pub slot-found : Slot → Option ℕ
+slot-found (slot.At i) = some i
+slot-found slot.Nowhere = none

@@ -1,20 +1,21 @@
 // Read, serve and find: the eight home slots of an animal, judged and compared once.
 ghost use mathlib.Core.Path.{_≡_};
-ghost use mathlib.Core.List.{List, [], _∷_};
+ghost use mathlib.Core.List.{List, [], _∷_, _++_};
 ghost use Prim.Native.Nat.{ℕ, _+_, _*_, _/_, _%_, _<_, _≤_};
 ghost use lib.ListN.{length, getD, set};
 ghost use lib.Dec.{eqb};
 ghost use mathlib.Core.Bool.{true};
-ghost use Rattle.model.specs.Choice.{any, first};
+ghost use Rattle.model.specs.Choice.{choose, any, first, range};
 ghost use Rattle.model.specs.Memory.{mem, damaged, permission, stamp};
 ghost use Rattle.model.specs.Yard.{sizes, good-lengths, right-lengths};
 ghost use Rattle.model.specs.Answers.{read, serve, find};
-ghost use Rattle.model.specs.Age.{verdict, bad-time};
+ghost use Rattle.model.specs.Age.{verdict, is-fresh, bad-time};
 ghost use Rattle.model.specs.Lent.{lent-call};
 ghost use Rattle.model.specs.Said.{said-reading, said-finding};
-ghost use Rattle.reading.specs.Look.{words-of, home-words, tag-sum, leads, found-word, first-of, early, Passed, HomesIn};
+ghost use Rattle.reading.specs.Look.{words-of, home-words, tag-sum, leads, found-word, first-of, early, Passed, HomesIn, Served, LooksUp, slot-found};
 
 use hashing::Homes;
+use model::Finding;
 use model::Reading;
 
 
@@ -251,4 +252,165 @@ pub fn read(slots: &[u32], counters: &[u32], items: &[u64], animal: u64, limit: 
         return Reading::Refused(no);
     }
     read_good(slots, counters, items, animal, limit, minute)
+}
+
+// A stamp that makes a permission fresh.
+fn is_in_time(stamp: u64, limit: u64, minute: u64) -> bool
+    ensures { λ r. ⌜ r ≡ is-fresh limit minute stamp ⌝ }
+{
+    if stamp == 18446744073709551615 {
+        return true;
+    }
+    if minute < stamp {
+        return false;
+    }
+    minute - stamp <= limit
+}
+
+// Serve stores 1 in the recent word, and only where the answer is fresh.
+fn mark_recent(items: &mut [u64], place: u32, fresh: bool)
+    ensures { λ _. ⌜ now (items .exit) ≡ choose fresh (set (now (items .entry)) (4 * place + 3) 1) (now (items .entry)) ⌝ }
+{
+    let at = 4 * (place as usize) + 3;
+    if !fresh {
+        return;
+    }
+    if items.len() <= at {
+        return;
+    }
+    items[at] = 1;
+}
+
+// A serve where no early refusal is due.
+fn serve_good(slots: &[u32], counters: &[u32], items: &mut [u64], animal: u64, limit: u64, minute: u64) -> Reading
+    requires { ⌜ Passed (mem (now slots) (now counters) (now items)) animal (bad-time limit minute) ⌝ }
+    ensures {
+        λ r. ⌜ Served (mem (now (slots .entry)) (now (counters .entry)) (now (items .entry))) (serve animal limit minute)
+        (now (items .exit)) r ⌝
+    }
+{
+    let h = homes_in(slots, counters, items, animal);
+    if is_odd(counters, h.counter) {
+        return Reading::Refused(8);
+    }
+    let e = home_words_of(slots, h.first, h.second);
+    let m = (items.len() / 4) as u32;
+    if any_damaged(e, m) {
+        return Reading::Refused(4);
+    }
+    let w = hit_word(items, e, h.tag, animal);
+    if w == 0 {
+        return Reading::Absent;
+    }
+    let told = judged_at(items, w % 65536, limit, minute);
+    let stamp = get64(items, 4 * ((w % 65536) as usize) + 2);
+    mark_recent(items, w % 65536, is_in_time(stamp, limit, minute));
+    told
+}
+
+pub fn serve(slots: &[u32], counters: &[u32], items: &mut [u64], animal: u64, limit: u64, minute: u64) -> Reading
+    ensures {
+        λ r. ⌜ Served (mem (now (slots .entry)) (now (counters .entry)) (now (items .entry))) (serve animal limit minute)
+        (now (items .exit)) r ⌝
+    }
+{
+    let no = refused_early(slots.len(), counters.len(), items.len(), animal, is_bad_time(limit, minute));
+    if no != 0 {
+        return Reading::Refused(no);
+    }
+    serve_good(slots, counters, items, animal, limit, minute)
+}
+
+// What set, delete and find look up: a refusal, nothing, or the word of the hit.
+pub enum Look {
+    Refused(u32),
+    Absent,
+    At(u32),
+}
+
+pub struct Looked {
+    pub look: Look,
+    pub homes: Homes,
+}
+
+// In a table of good lengths: the callers have refused any other.
+pub fn look_up(slots: &[u32], counters: &[u32], items: &[u64], animal: u64) -> Looked
+    requires { ⌜ right-lengths 4 4 sizes (mem (now slots) (now counters) (now items)) ≡ true ⌝ }
+    ensures { λ r. ⌜ LooksUp (mem (now (slots .entry)) (now (counters .entry)) (now (items .entry))) animal r ⌝ }
+{
+    let homes = homes_in(slots, counters, items, animal);
+    if is_odd(counters, homes.counter) {
+        return Looked { look: Look::Refused(8), homes };
+    }
+    let e = home_words_of(slots, homes.first, homes.second);
+    let m = (items.len() / 4) as u32;
+    if any_damaged(e, m) {
+        return Looked { look: Look::Refused(4), homes };
+    }
+    let w = hit_word(items, e, homes.tag, animal);
+    if w == 0 {
+        return Looked { look: Look::Absent, homes };
+    }
+    Looked { look: Look::At(w), homes }
+}
+
+// The place of an animal.
+pub fn find(slots: &[u32], counters: &[u32], items: &[u64], animal: u64) -> Finding
+    ensures {
+        λ r. ⌜ said-finding r
+        ≡ lent-call 4 4 sizes (mem (now (slots .entry)) (now (counters .entry)) (now (items .entry))) (find animal) .answer ⌝
+    }
+{
+    let no = refused_early(slots.len(), counters.len(), items.len(), animal, false);
+    if no != 0 {
+        return Finding::Refused(no);
+    }
+    let looked = look_up(slots, counters, items, animal);
+    let look = looked.look;
+    match look {
+        Look::Refused(n) => Finding::Refused(n),
+        Look::Absent => Finding::Absent,
+        Look::At(w) => Finding::At((w % 65536) as usize),
+    }
+}
+
+// A slot that was looked for.
+pub enum Slot {
+    At(usize),
+    Nowhere,
+}
+
+// The first slot of a bucket with a word.
+fn slot_in(slots: &[u32], b: u32, w: u32) -> Slot
+    requires { ⌜ b * 4 + 3 < length (now slots) ⌝ }
+    ensures { λ r. ⌜ slot-found r ≡ first (λ i. eqb (getD (now (slots .entry)) i 0) w) (range (b * 4) 4) ⌝ }
+{
+    let at = (b as usize) * 4;
+    if slots[at] == w {
+        return Slot::At(at);
+    }
+    if slots[at + 1] == w {
+        return Slot::At(at + 1);
+    }
+    if slots[at + 2] == w {
+        return Slot::At(at + 2);
+    }
+    if slots[at + 3] == w {
+        return Slot::At(at + 3);
+    }
+    Slot::Nowhere
+}
+
+// The first home slot with a word.
+pub fn slot_of(slots: &[u32], near: u32, far: u32, w: u32) -> Slot
+    requires { ⌜ (near * 4 + 3 < length (now slots)) × (far * 4 + 3 < length (now slots)) ⌝ }
+    ensures {
+        λ r. ⌜ slot-found r ≡ first (λ i. eqb (getD (now (slots .entry)) i 0) w) (range (near * 4) 4 ++ range (far * 4) 4) ⌝
+    }
+{
+    let found = slot_in(slots, near, w);
+    match found {
+        Slot::At(i) => Slot::At(i),
+        Slot::Nowhere => slot_in(slots, far, w),
+    }
 }
