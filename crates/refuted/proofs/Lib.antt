@@ -1,0 +1,2 @@
+pub mod Blind
+pub mod Refuted

@@ -1,0 +1,111 @@
+-- The wrong tables that document 01 names, each a small change of ours, and one more that clears the source first. Assumes nothing.
+use Prim.Native.Nat.{ℕ}
+use mathlib.Core.List.{List, [], _∷_, _++_}
+use Rattle.model.specs.Memory.{Mem}
+use Rattle.model.specs.Yard.{sizes}
+use Rattle.model.specs.Stores.{Block, Store, counted, enter, move, recency, remove, slot-to, stores-of, update}
+use Rattle.model.specs.Answers.{Answer, Event, absent, ahead, at-place, delete, deleted, did, evict, evicted, find, fresh, listed}
+use Rattle.model.specs.Answers.{make-fresh, old, read, refused, serve, set-animal, started, stored, write-list}
+use Rattle.model.specs.Lent.{event-answer, lent-call}
+use Rattle.model.specs.AnyTable.{Table, Write}
+use Rattle.model.specs.Ours.{our-writes, traced}
+
+-- wrong answers: reads and serves say f of what they should say
+abbrev pub misread : (Answer → Answer) → Event → Answer → Answer
+misread f make-fresh a = a
+misread f (did (read x limit now)) a = f a
+misread f (did (serve x limit now)) a = f a
+misread f (did (find x)) a = a
+misread f (did (set-animal x v now s)) a = a
+misread f (did (delete x)) a = a
+misread f (did (evict hand)) a = a
+misread f (did (write-list size)) a = a
+
+-- the visit count is n, whatever the search did
+abbrev pub miscount : ℕ → Answer → Answer
+miscount n (refused k) = refused k
+miscount n absent = absent
+miscount n (fresh v a) = fresh v a
+miscount n (old a) = old a
+miscount n ahead = ahead
+miscount n (stored v k) = stored n k
+miscount n deleted = deleted
+miscount n (evicted x k h) = evicted x k h
+miscount n started = started
+miscount n (listed k l) = listed k l
+miscount n (at-place p) = at-place p
+
+-- wrong stores: those of a set are left out, its moves, its new entry and its update
+abbrev pub forgets-sets : List Block → List Store
+forgets-sets [] = []
+forgets-sets (move c from to y ∷ bs) = forgets-sets bs
+forgets-sets (enter c p i y x v s ∷ bs) = forgets-sets bs
+forgets-sets (update c p v s ∷ bs) = forgets-sets bs
+forgets-sets (remove c i p ∷ bs) = stores-of (remove c i p) ++ forgets-sets bs
+forgets-sets (recency p mark ∷ bs) = stores-of (recency p mark) ++ forgets-sets bs
+
+-- a move only clears its source, and writes no destination
+abbrev pub only-clears : List Block → List Store
+only-clears [] = []
+only-clears (move c from to y ∷ bs) = counted c (slot-to from 0 ∷ []) ++ only-clears bs
+only-clears (enter c p i y x v s ∷ bs) = stores-of (enter c p i y x v s) ++ only-clears bs
+only-clears (update c p v s ∷ bs) = stores-of (update c p v s) ++ only-clears bs
+only-clears (remove c i p ∷ bs) = stores-of (remove c i p) ++ only-clears bs
+only-clears (recency p mark ∷ bs) = stores-of (recency p mark) ++ only-clears bs
+
+-- the first displacement of a call is proper, and the later ones only clear their sources
+abbrev pub first-proper : List Block → List Store
+first-proper [] = []
+first-proper (b ∷ bs) = stores-of b ++ only-clears bs
+
+-- a move clears its source before it writes its destination
+abbrev pub swapped : Block → List Store
+swapped (move c from to y) = counted c (slot-to from 0 ∷ slot-to to y ∷ [])
+swapped (enter c p i y x v s) = stores-of (enter c p i y x v s)
+swapped (update c p v s) = stores-of (update c p v s)
+swapped (remove c i p) = stores-of (remove c i p)
+swapped (recency p mark) = stores-of (recency p mark)
+
+-- and so do all the moves of a call
+abbrev pub all-swapped : List Block → List Store
+all-swapped [] = []
+all-swapped (b ∷ bs) = swapped b ++ all-swapped bs
+
+-- changes of our table, of any ways and moves
+module _ (w d : ℕ) (ns : List ℕ) where
+  -- other answers, and the same writes
+  abbrev pub retold : (Event → Answer → Answer) → Table
+  retold f = record { answer = λ m e. f e (event-answer w d ns m e); writes = our-writes w d ns }
+
+  -- other stores for what a call does; fresh writes what ours writes
+  abbrev pub built-writes : (List Block → List Store) → Mem → Event → List Write
+  built-writes f m make-fresh = our-writes w d ns m make-fresh
+  built-writes f m (did c) = traced m (f (lent-call w d ns m c .blocks))
+
+  -- the same answers, and those stores
+  abbrev pub built : (List Block → List Store) → Table
+  built f = record { answer = event-answer w d ns; writes = built-writes f }
+
+-- the wrong tables by name, for the gate: one that refuses everything, by whatever numbers, and writes nothing
+abbrev pub refuses-everything : (Mem → Event → ℕ) → Table
+refuses-everything f = record { answer = λ m e. refused (f m e); writes = λ m e. [] }
+
+-- reads say f of what they should say: always absent, or always fresh, is a constant f
+abbrev pub misreads : (Answer → Answer) → Table
+misreads f = retold 4 4 sizes (misread f)
+
+-- a set stores nothing and answers as ours does
+abbrev pub stores-nothing : Table
+stores-nothing = built 4 4 sizes forgets-sets
+
+-- a set moves properly at the first displacement and only clears sources in later ones
+abbrev pub clears-later : Table
+clears-later = built 4 4 sizes first-proper
+
+-- the visit count is always n
+abbrev pub counts : ℕ → Table
+counts n = retold 4 4 sizes (λ e. miscount n)
+
+-- the source is cleared before the destination is written
+abbrev pub source-first : Table
+source-first = built 4 4 sizes all-swapped
