@@ -91,7 +91,7 @@ small m right =
     record { slots-small = size-most (f .size); counters-small = f .few-counters; places-small = f .few }
 
 -- the home slots by their words
-mapped : (ℕ → ℕ) → Option ℕ → Option ℕ
+unfoldable pub mapped : (ℕ → ℕ) → Option ℕ → Option ℕ
 mapped g none = none
 mapped g (some i) = some (g i)
 
@@ -144,7 +144,7 @@ module _ (m : Mem) (x : ℕ) where
   abbrev pub hit-among : List ℕ → Option ℕ
   hit-among ws = first (leads (m .items) (Y4 m .tag-of x) x) ws
 
-  hit-words : hit-among (home-words (m .slots) (Y4 m .first-of x) (second-of (Y4 m) x)) ≡ mapped (word m) (hit (Y4 m) m x)
+  pub hit-words : hit-among (home-words (m .slots) (Y4 m .first-of x) (second-of (Y4 m) x)) ≡ mapped (word m) (hit (Y4 m) m x)
   unfolding hit hits leads
   hit-words = ap hit-among (sym (words-are m x)) ∙ first-map (leads (m .items) (Y4 m .tag-of x) x) (word m) (homes (Y4 m) x)
 

@@ -1,0 +1,53 @@
+-- `writing::zero32` meets its contract: the words passed are zero. Assumes nothing.
+use borrow.Author.Needs.{needs}
+use Prim.Native.Nat.{ℕ, _<_, _-_}
+use mathlib.Core.Path.{_≡_}
+use lib.ListN.{length, getD}
+use Rattle.writing.proofs.Laws.{zero-more, zero-all}
+use Rattle.writing.proofs.zero32.Statement.{statement}
+use Rattle.writing.proofs.zero32.Tie as tie
+
+abbrev Inv-loop : tie.InvT-loop
+Inv-loop run₀ i₀ run i = (length run ≡ length run₀) × ((j : ℕ) → j < i → getD run j 0 ≡ 0)
+
+abbrev μ-loop : tie.MeasureT-loop
+μ-loop run₀ i₀ run i = length run₀ - i
+
+loop-holds : tie.Need-loop-holds Inv-loop μ-loop
+loop-holds c = (search needs, λ j h. absurd (search needs))
+
+mul-run : tie.Need-mul-run Inv-loop μ-loop
+mul-run c = search needs
+
+slice-write-run : tie.Need-slice-write-run Inv-loop μ-loop
+slice-write-run c = search needs
+
+add-i : tie.Need-add-i Inv-loop μ-loop
+add-i c = search needs
+
+loop-less : tie.Need-loop-less Inv-loop μ-loop
+loop-less c = search needs
+
+loop-again : tie.Need-loop-again Inv-loop μ-loop
+loop-again c = (search needs, let at = c .before .loop in zero-more (at .run) (at .i) (search needs) (at .inv .1))
+
+same-length : tie.Need-same-length Inv-loop μ-loop
+same-length c = search needs
+
+returns : tie.Need-returns Inv-loop μ-loop
+returns c = let at = c .before .loop in zero-all (at .run) (c .before .before .args .run .now) (at .i) (at .inv .0) (search needs) (at .inv .1)
+
+pub zero32-spec : {M : Type 1} → statement M
+zero32-spec =
+    tie.close
+    (tie.spec
+    Inv-loop
+    μ-loop
+    loop-holds
+    mul-run
+    slice-write-run
+    add-i
+    loop-less
+    loop-again
+    same-length
+    returns)
