@@ -30,5 +30,6 @@ pub mod OnWellFormed
 pub mod Demands
 pub mod Never
 pub mod Paper
+pub mod Said
 pub mod Ten
 pub mod Examples
