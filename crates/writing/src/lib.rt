@@ -1,11 +1,11 @@
-// Fresh, delete and set, whole and cut.
+// Fresh and delete, whole and cut.
 ghost use mathlib.Core.Path.{_≡_};
 ghost use mathlib.Core.List.{List};
 ghost use Prim.Native.Nat.{ℕ};
 ghost use lib.ListN.{length, replicate};
 ghost use Rattle.model.specs.Memory.{mem};
-ghost use Rattle.model.specs.Answers.{delete, set-animal};
-ghost use Rattle.model.specs.Said.{said-starting, said-deleting, said-setting};
+ghost use Rattle.model.specs.Answers.{delete};
+ghost use Rattle.model.specs.Said.{said-starting, said-deleting};
 ghost use Rattle.writing.specs.Wrote.{FreshAs, CutAs, WholeAs, Hit};
 
 use hashing::Homes;
