@@ -1,0 +1,5 @@
+pub mod Words
+pub mod Visits
+pub mod Back
+pub mod Visiting
+pub mod Laws
