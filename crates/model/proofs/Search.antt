@@ -87,7 +87,7 @@ module _ (S : Layout) (T : List ℕ) where
       dite (decLt p q)
       (λ h. let f = r .free (omega arith) in absurd (before p h (free-slot S T (getD bs p 0), f, slot-is S T (getD bs p 0) .free f))) λ ng. omega arith
 
-length-climb : (S : Layout) (Q : List ℕ) (h f q r : ℕ) → length (climb S Q h f q r) ≤ f
+pub length-climb : (S : Layout) (Q : List ℕ) (h f q r : ℕ) → length (climb S Q h f q r) ≤ f
 unfolding climb
 length-climb S Q h zero q r = omega arith
 length-climb S Q h (suc f) q r =

@@ -1,9 +1,19 @@
 -- What set's inner steps take and promise. Assumes nothing.
-use Prim.Native.Nat.{ℕ, _<_, _≤_}
+use Prim.Native.Nat.{ℕ, _<_, _≤_, _/_}
+use mathlib.Core.Path.{_≡_}
+use mathlib.Core.Bool.{true}
+use mathlib.Core.Option.{Option}
 use mathlib.Core.List.{List, [], _∷_}
-use lib.ListN.{getD}
+use lib.ListN.{length, getD}
+use Rattle.searching.specs.Search.{FoundIs}
+use Rattle.reading.specs.Look.{HomesIn}
+use Rattle.model.specs.Memory.{Mem}
 use Rattle.model.specs.Hash.{Size}
+use Rattle.model.specs.Yard.{right-lengths, sizes, yard-of}
+use Rattle.model.specs.Stores.{cut-stores}
 use Rattle.model.specs.Moves.{Move}
+use Rattle.model.specs.Answers.{Answer}
+use Rattle.model.specs.Calls.{Outcome, enter-at, vacant-place}
 use Rattle.searching.specs.declared.Move.{Move as Tagged}
 use Rattle.searching.specs.declared.Found.{Found}
 use Rattle.hashing.specs.declared.Homes.{Homes}
@@ -27,3 +37,26 @@ pub record MovesIn (n v : ℕ) (ms : List Tagged) (count : ℕ) : Type 0 where
   pub few : v ≤ 1024
   pub four : count ≤ 4
   pub sources : (j : ℕ) → j < count → (d : Tagged) → getD ms j d .from < 8192
+
+-- an outcome of which the first k stores took the memory m to m′, with the answer a
+pub record Does (o : Outcome) (k : ℕ) (m m′ : Mem) (a : Answer) : Type 0 where
+  pub told : a ≡ o .answer
+  pub left : m′ ≡ cut-stores k (o .blocks) m
+
+-- set of an absent animal, where the lowest vacant place is known; and where it is looked for
+abbrev pub entering : Mem → ℕ → ℕ → ℕ → Option ℕ → Outcome
+entering m x v s o = enter-at (yard-of 4 4 sizes m) m x v s o
+
+abbrev pub entering-new : Mem → ℕ → ℕ → ℕ → Outcome
+entering-new m x v s = entering m x v s (vacant-place (length (m .items) / 4) (m .items))
+
+-- the lengths are a table's, and the four numbers are those of animal x
+pub record Homed (m : Mem) (x : ℕ) (h : Homes) : Type 0 where
+  pub right : right-lengths 4 4 sizes m ≡ true
+  pub homes-are : HomesIn m x h
+
+-- the vacant place p and what the search found
+pub record Searched (m : Mem) (x : ℕ) (h : Homes) (p : ℕ) (r : Found) : Type 0 where
+  pub homed : Homed m x h
+  pub low : p < length (m .items) / 4
+  pub found-is : FoundIs (length (m .slots) / 4) (length (m .items) / 4) (m .slots) (h .first) (h .second) r

@@ -3,6 +3,7 @@ ghost use mathlib.Core.Path.{_≡_};
 ghost use mathlib.Core.List.{List};
 ghost use Prim.Native.Nat.{ℕ, _*_, _<_, _≤_};
 ghost use lib.ListN.{length, take, getD};
+ghost use mathlib.Core.Option.{some};
 ghost use Rattle.model.specs.Memory.{mem};
 ghost use Rattle.model.specs.Hash.{Size};
 ghost use Rattle.model.specs.Yard.{yard};
@@ -13,8 +14,14 @@ ghost use Rattle.model.specs.Calls.{move-block, move-blocks};
 ghost use Rattle.model.specs.Said.{said-setting};
 ghost use Rattle.storing.specs.Made.{Made};
 ghost use Rattle.writing.specs.Wrote.{CutAs, WholeAs};
-ghost use Rattle.setting.specs.Enter.{Movable, MovesIn, plain-moves};
+ghost use Rattle.setting.specs.Enter.{Movable, MovesIn, plain-moves, Does, entering, entering-new, Homed, Searched};
 
+use hashing::Homes;
+use model::Setting;
+use places::Vacancy;
+use reading::Look;
+use searching::Ending;
+use searching::Found;
 use searching::Move;
 
 // The word in slot i, 0 outside: what the definitions read there.
@@ -62,4 +69,133 @@ fn make_moves(slots: &mut [u32], counters: &mut [u32], n: u32, moves: [Move; 4],
         j += 1;
     }
     l
+}
+
+// What the search found is carried out: the moves, then the new entry in the vacant place p.
+fn enter_found(
+    slots: &mut [u32],
+    counters: &mut [u32],
+    items: &mut [u64],
+    animal: u64,
+    permission: u32,
+    stamp: u64,
+    homes: Homes,
+    p: usize,
+    found: Found,
+    k: u64,
+) -> Setting
+    requires { ⌜ Searched (mem (now slots) (now counters) (now items)) animal homes p found ⌝ }
+    ensures {
+        λ r. ⌜ Does (entering (mem (now (slots .entry)) (now (counters .entry)) (now (items .entry))) animal permission stamp (some p)) k
+        (mem (now (slots .entry)) (now (counters .entry)) (now (items .entry)))
+        (mem (now (slots .exit)) (now (counters .exit)) (now (items .exit))) (said-setting r) ⌝
+    }
+{
+    let ending = found.ending;
+    match ending {
+        Ending::Damaged => Setting::Refused(4),
+        Ending::Nowhere => Setting::Refused(6),
+        Ending::Room { visits } => {
+            let n = (slots.len() / 4) as u32;
+            let moves = found.moves;
+            let count = found.count;
+            let left = make_moves(slots, counters, n, moves, count, k);
+            let place = p as u32;
+            let word = homes.tag * 65536 + place;
+            let at = found.slot;
+            let c = homes.counter as usize;
+            storing::enter_entry(slots, counters, items, c, place, at, word, animal, permission, stamp, left);
+            Setting::Stored { visits, moves: count }
+        }
+    }
+}
+
+// A new entry for an absent animal: the lowest vacant place, then the search.
+fn enter_new(
+    slots: &mut [u32],
+    counters: &mut [u32],
+    items: &mut [u64],
+    animal: u64,
+    permission: u32,
+    stamp: u64,
+    homes: Homes,
+    k: u64,
+) -> Setting
+    requires { ⌜ Homed (mem (now slots) (now counters) (now items)) animal homes ⌝ }
+    ensures {
+        λ r. ⌜ Does (entering-new (mem (now (slots .entry)) (now (counters .entry)) (now (items .entry))) animal permission stamp) k
+        (mem (now (slots .entry)) (now (counters .entry)) (now (items .entry)))
+        (mem (now (slots .exit)) (now (counters .exit)) (now (items .exit))) (said-setting r) ⌝
+    }
+{
+    let m = items.len() / 4;
+    let vacancy = places::vacant_place(items, m);
+    let Vacancy::At(p) = vacancy else {
+        return Setting::Refused(5);
+    };
+    let n = (slots.len() / 4) as u32;
+    let found = searching::search(slots, n, m as u32, homes.first, homes.second);
+    enter_found(slots, counters, items, animal, permission, stamp, homes, p, found, k)
+}
+
+// The stamp of a set: the minute of arrival, or the standing mark.
+fn stamp_for(minute: u64, standing: bool) -> u64
+    ensures { λ r. ⌜ r ≡ stamp-of minute standing ⌝ }
+{
+    if standing {
+        return 18446744073709551615;
+    }
+    minute
+}
+
+// Set, of which only the first k stores are made.
+pub fn set_cut(
+    slots: &mut [u32],
+    counters: &mut [u32],
+    items: &mut [u64],
+    animal: u64,
+    permission: u32,
+    minute: u64,
+    standing: bool,
+    k: u64,
+) -> Setting
+    ensures {
+        λ r. ⌜ CutAs (mem (now (slots .entry)) (now (counters .entry)) (now (items .entry))) (set-animal animal permission minute standing) k
+        (mem (now (slots .exit)) (now (counters .exit)) (now (items .exit))) (said-setting r) ⌝
+    }
+{
+    let late = minute == 18446744073709551615;
+    let no = reading::refused_early(slots.len(), counters.len(), items.len(), animal, late);
+    if no != 0 {
+        return Setting::Refused(no);
+    }
+    let stamp = stamp_for(minute, standing);
+    let looked = reading::look_up(slots, counters, items, animal);
+    let look = looked.look;
+    let homes = looked.homes;
+    match look {
+        Look::Refused(n) => Setting::Refused(n),
+        Look::Absent => enter_new(slots, counters, items, animal, permission, stamp, homes, k),
+        Look::At(w) => {
+            storing::update_entry(counters, items, homes.counter as usize, w % 65536, permission, stamp, k);
+            Setting::Stored { visits: 0, moves: 0 }
+        }
+    }
+}
+
+pub fn set(
+    slots: &mut [u32],
+    counters: &mut [u32],
+    items: &mut [u64],
+    animal: u64,
+    permission: u32,
+    minute: u64,
+    standing: bool,
+) -> Setting
+    ensures {
+        λ r. ⌜ WholeAs (mem (now (slots .entry)) (now (counters .entry)) (now (items .entry))) (set-animal animal permission minute standing)
+        (mem (now (slots .exit)) (now (counters .exit)) (now (items .exit))) (said-setting r) ⌝
+    }
+{
+    set_cut(slots, counters, items, animal, permission, minute, standing, 18446744073709551615)
 }
