@@ -27,6 +27,7 @@ pub mod Searched
 pub mod Trace
 pub mod Demand1
 pub mod OnWellFormed
+pub mod Linked
 pub mod Demands
 pub mod Never
 pub mod Paper
