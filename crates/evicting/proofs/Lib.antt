@@ -1,0 +1,4 @@
+pub mod Clears
+pub mod Plans
+pub mod Turning
+pub mod Decides

@@ -1,0 +1,88 @@
+-- From the bytes of a line to its words, and from a word to a number. Assumes nothing.
+use Prim.Native.Nat.{ℕ, _+_, _*_, _-_}
+use Prim.Native.Char.{code}
+use mathlib.Core.Bool.{Bool, true, false, not, _||_, _&&_}
+use mathlib.Core.Option.{Option, none, some}
+use mathlib.Core.List.{List, [], _∷_}
+use lib.ListN.{length, getD, take}
+use lib.Dec.{eqb, leb}
+
+-- the first of two if a test passed, else the second
+abbrev pub choose : {A : Type 0} → Bool → A → A → A
+choose true a b = a
+choose false a b = b
+
+-- the bytes before the first that passes a test
+unfoldable pub before : (ℕ → Bool) → List ℕ → List ℕ
+before f [] = []
+before f (b ∷ bs) = choose (f b) [] (b ∷ before f bs)
+
+-- LF ends a line
+abbrev pub is-end : ℕ → Bool
+is-end b = eqb b (code "\n")
+
+-- # starts a comment
+abbrev pub is-comment : ℕ → Bool
+is-comment b = eqb b (code "#")
+
+-- a space or a tab stands between words
+abbrev pub is-gap : ℕ → Bool
+is-gap b = eqb b (code " ") || eqb b (code "\t")
+
+abbrev pub is-no-gap : ℕ → Bool
+is-no-gap b = not (is-gap b)
+
+-- a CR at the end of a line belongs to the line end
+unfoldable pub without-return : List ℕ → List ℕ
+without-return bs = choose (eqb (getD bs (length bs - 1) 0) (code "\r")) (take (length bs - 1) bs) bs
+
+unfoldable pub without-comment : List ℕ → List ℕ
+without-comment bs = before is-comment bs
+
+-- one more byte in front: a gap starts a piece of its own, any other byte joins the first piece
+abbrev pub joined : Bool → ℕ → List (List ℕ) → List (List ℕ)
+joined true b ps = [] ∷ ps
+joined false b [] = (b ∷ []) ∷ []
+joined false b (p ∷ ps) = (b ∷ p) ∷ ps
+
+-- the pieces between the gaps, the empty ones too
+unfoldable pub pieces : List ℕ → List (List ℕ)
+pieces [] = [] ∷ []
+pieces (b ∷ bs) = joined (is-gap b) b (pieces bs)
+
+-- all but the empty ones
+unfoldable pub filled : List (List ℕ) → List (List ℕ)
+filled [] = []
+filled ([] ∷ ps) = filled ps
+filled ((b ∷ p) ∷ ps) = (b ∷ p) ∷ filled ps
+
+unfoldable pub words : List ℕ → List (List ℕ)
+words bs = filled (pieces bs)
+
+-- two words have the same bytes
+unfoldable pub same : List ℕ → List ℕ → Bool
+same [] [] = true
+same [] (c ∷ cs) = false
+same (b ∷ bs) [] = false
+same (b ∷ bs) (c ∷ cs) = choose (eqb b c) (same bs cs) false
+
+abbrev pub is-digit : ℕ → Bool
+is-digit b = leb (code "0") b && leb b (code "9")
+
+unfoldable pub all-digits : List ℕ → Bool
+all-digits [] = true
+all-digits (b ∷ bs) = choose (is-digit b) (all-digits bs) false
+
+-- the number that more digits make of v
+unfoldable pub value : ℕ → List ℕ → ℕ
+value v [] = v
+value v (d ∷ ds) = value (v * 10 + (d - code "0")) ds
+
+-- that number, if they are digits and it is at most top
+unfoldable pub number-from : ℕ → ℕ → List ℕ → Option ℕ
+number-from top v ds = choose (all-digits ds) (choose (leb (value v ds) top) (some (value v ds)) none) none
+
+-- the number at most top that a word is, if it is one
+unfoldable pub number : ℕ → List ℕ → Option ℕ
+number top [] = none
+number top (d ∷ ds) = number-from top 0 (d ∷ ds)
