@@ -6,7 +6,6 @@ ghost use Rattle.language.specs.Print.{Put};
 ghost use Rattle.model.specs.Answers.{refused, listed};
 ghost use Rattle.model.specs.Said.{said-reading, said-setting, said-deleting, said-evicting, said-starting};
 ghost use Rattle.telling.specs.Text.{line, numbered, told, text, not-understood};
-
 use model::Deleting;
 use model::Evicting;
 use model::Reading;
@@ -82,7 +81,13 @@ pub fn put_setting(buffer: &mut [u8], at: usize, said: Setting) -> usize
     ensures { λ r. ⌜ Put (text (said-setting said)) at (now (buffer .entry)) (now (buffer .exit)) r × (r ≤ at + 96) ⌝ }
 {
     match said {
-        Setting::Stored { visits, moves } => put_two(buffer, at, b"stored", visits as u64, moves as u64),
+        Setting::Stored { visits, moves } => put_two(
+            buffer,
+            at,
+            b"stored",
+            visits as u64,
+            moves as u64,
+        ),
         Setting::Refused(n) => put_refused(buffer, at, n as u64),
     }
 }
@@ -103,7 +108,14 @@ pub fn put_evicting(buffer: &mut [u8], at: usize, said: Evicting, hand: u64) -> 
     ensures { λ r. ⌜ Put (text (said-evicting said hand)) at (now (buffer .entry)) (now (buffer .exit)) r × (r ≤ at + 96) ⌝ }
 {
     match said {
-        Evicting::Evicted { victim, looked } => put_three(buffer, at, b"evicted", victim, looked as u64, hand),
+        Evicting::Evicted { victim, looked } => put_three(
+            buffer,
+            at,
+            b"evicted",
+            victim,
+            looked as u64,
+            hand,
+        ),
         Evicting::Refused(n) => put_refused(buffer, at, n as u64),
     }
 }
