@@ -7,12 +7,11 @@ ghost use lib.Dec.{eqb};
 ghost use Rattle.model.specs.Memory.{mem};
 ghost use Rattle.model.specs.Yard.{sizes};
 ghost use Rattle.model.specs.Hash.{fnv-step};
-ghost use Rattle.model.specs.Answers.{read, serve, find, set-animal, delete, evict, make-fresh, hand-back};
-ghost use Rattle.model.specs.Lent.{lent-call, lent-after, lent-cut, event-answer, after-fresh};
-ghost use Rattle.model.specs.Said.{said-reading, said-finding, said-setting, said-deleting, said-evicting, said-listing, said-starting, listed-into};
-ghost use Rattle.listing.specs.List.{list-answer};
-ghost use Rattle.boughladder.specs.Clothes.{number, reading-clothes, finding-clothes, setting-clothes, evicting-clothes, listing-clothes};
-
+ghost use Rattle.model.specs.Answers.{read, serve, find, set-animal, delete, evict};
+ghost use Rattle.model.specs.Lent.{lent-call};
+ghost use Rattle.model.specs.Said.{said-reading, said-finding, said-setting, said-deleting, said-evicting, said-listing, said-starting};
+ghost use Rattle.boughladder.specs.Clothes.{number, reading-clothes, finding-clothes, setting-clothes, turned-clothes, evicting-clothes, listing-clothes};
+ghost use Rattle.boughladder.specs.Clothes.{WholeIn, CutIn, FreshIn, ListIn};
 use model::Deleting;
 use model::Evicting;
 use model::Finding;
@@ -161,7 +160,7 @@ fn dress_starting(told: Starting) -> u32
 
 // With the hand that came back.
 fn dress_evicting(told: Evicting, hand: usize) -> BoughladderEvicting
-    ensures { λ r. ⌜ r ≡ evicting-clothes hand (said-evicting told hand) ⌝ }
+    ensures { λ r. ⌜ r ≡ turned-clothes hand (said-evicting told hand) ⌝ }
 {
     match told {
         Evicting::Evicted { victim, looked } => BoughladderEvicting {
@@ -200,12 +199,13 @@ pub extern "C" fn boughladder_fnv_byte(h: u32, b: u8) -> u32
 }
 
 #[no_mangle]
-pub extern "C" fn boughladder_fresh(slots: &mut [u32], counters: &mut [u32], items: &mut [u64]) -> u32
-    ensures {
-        λ r. ⌜ (r ≡ number (event-answer 4 4 sizes (mem (now (slots .entry)) (now (counters .entry)) (now (items .entry))) make-fresh))
-        × (mem (now (slots .exit)) (now (counters .exit)) (now (items .exit))
-        ≡ after-fresh 4 4 sizes (mem (now (slots .entry)) (now (counters .entry)) (now (items .entry)))) ⌝
-    }
+pub extern "C" fn boughladder_fresh(
+    slots: &mut [u32],
+    counters: &mut [u32],
+    items: &mut [u64],
+) -> u32
+    ensures { λ r. ⌜ FreshIn (mem (now (slots .entry)) (now (counters .entry)) (now (items .entry)))
+        (mem (now (slots .exit)) (now (counters .exit)) (now (items .exit))) r ⌝ }
 {
     let told = writing::fresh(slots, counters, items);
     dress_starting(told)
@@ -220,10 +220,8 @@ pub extern "C" fn boughladder_read(
     limit: u64,
     minute: u64,
 ) -> BoughladderReading
-    ensures {
-        λ r. ⌜ r ≡ reading-clothes
-        (lent-call 4 4 sizes (mem (now (slots .entry)) (now (counters .entry)) (now (items .entry))) (read animal limit minute) .answer) ⌝
-    }
+    ensures { λ r. ⌜ r ≡ reading-clothes
+        (lent-call 4 4 sizes (mem (now (slots .entry)) (now (counters .entry)) (now (items .entry))) (read animal limit minute) .answer) ⌝ }
 {
     let told = reading::read(slots, counters, items, animal, limit, minute);
     dress_reading(told)
@@ -238,23 +236,22 @@ pub extern "C" fn boughladder_serve(
     limit: u64,
     minute: u64,
 ) -> BoughladderReading
-    ensures {
-        λ r. ⌜ (r ≡ reading-clothes
-        (lent-call 4 4 sizes (mem (now (slots .entry)) (now (counters .entry)) (now (items .entry))) (serve animal limit minute) .answer))
-        × (mem (now (slots .entry)) (now (counters .entry)) (now (items .exit))
-        ≡ lent-after 4 4 sizes (mem (now (slots .entry)) (now (counters .entry)) (now (items .entry))) (serve animal limit minute)) ⌝
-    }
+    ensures { λ r. ⌜ WholeIn reading-clothes (mem (now (slots .entry)) (now (counters .entry)) (now (items .entry))) (serve animal limit minute)
+        (mem (now (slots .entry)) (now (counters .entry)) (now (items .exit))) r ⌝ }
 {
     let told = reading::serve(slots, counters, items, animal, limit, minute);
     dress_reading(told)
 }
 
 #[no_mangle]
-pub extern "C" fn boughladder_find(slots: &[u32], counters: &[u32], items: &[u64], animal: u64) -> BoughladderFinding
-    ensures {
-        λ r. ⌜ r ≡ finding-clothes
-        (lent-call 4 4 sizes (mem (now (slots .entry)) (now (counters .entry)) (now (items .entry))) (find animal) .answer) ⌝
-    }
+pub extern "C" fn boughladder_find(
+    slots: &[u32],
+    counters: &[u32],
+    items: &[u64],
+    animal: u64,
+) -> BoughladderFinding
+    ensures { λ r. ⌜ r ≡ finding-clothes
+        (lent-call 4 4 sizes (mem (now (slots .entry)) (now (counters .entry)) (now (items .entry))) (find animal) .answer) ⌝ }
 {
     let told = reading::find(slots, counters, items, animal);
     dress_finding(told)
@@ -271,16 +268,18 @@ pub extern "C" fn boughladder_set(
     minute: u64,
     standing: u32,
 ) -> BoughladderSetting
-    ensures {
-        λ r. ⌜ (r ≡ setting-clothes
-        (lent-call 4 4 sizes (mem (now (slots .entry)) (now (counters .entry)) (now (items .entry)))
-        (set-animal animal permission minute (not (eqb standing 0))) .answer))
-        × (mem (now (slots .exit)) (now (counters .exit)) (now (items .exit))
-        ≡ lent-after 4 4 sizes (mem (now (slots .entry)) (now (counters .entry)) (now (items .entry)))
-        (set-animal animal permission minute (not (eqb standing 0)))) ⌝
-    }
+    ensures { λ r. ⌜ WholeIn setting-clothes (mem (now (slots .entry)) (now (counters .entry)) (now (items .entry)))
+        (set-animal animal permission minute (not (eqb standing 0))) (mem (now (slots .exit)) (now (counters .exit)) (now (items .exit))) r ⌝ }
 {
-    let told = setting::set(slots, counters, items, animal, permission, minute, standing != 0);
+    let told = setting::set(
+        slots,
+        counters,
+        items,
+        animal,
+        permission,
+        minute,
+        standing != 0,
+    );
     dress_setting(told)
 }
 
@@ -296,27 +295,31 @@ pub extern "C" fn boughladder_set_cut(
     standing: u32,
     k: u64,
 ) -> BoughladderSetting
-    ensures {
-        λ r. ⌜ (r ≡ setting-clothes
-        (lent-call 4 4 sizes (mem (now (slots .entry)) (now (counters .entry)) (now (items .entry)))
-        (set-animal animal permission minute (not (eqb standing 0))) .answer))
-        × (mem (now (slots .exit)) (now (counters .exit)) (now (items .exit))
-        ≡ lent-cut 4 4 sizes k (mem (now (slots .entry)) (now (counters .entry)) (now (items .entry)))
-        (set-animal animal permission minute (not (eqb standing 0)))) ⌝
-    }
+    ensures { λ r. ⌜ CutIn setting-clothes (mem (now (slots .entry)) (now (counters .entry)) (now (items .entry)))
+        (set-animal animal permission minute (not (eqb standing 0))) k (mem (now (slots .exit)) (now (counters .exit)) (now (items .exit))) r ⌝ }
 {
-    let told = setting::set_cut(slots, counters, items, animal, permission, minute, standing != 0, k);
+    let told = setting::set_cut(
+        slots,
+        counters,
+        items,
+        animal,
+        permission,
+        minute,
+        standing != 0,
+        k,
+    );
     dress_setting(told)
 }
 
 #[no_mangle]
-pub extern "C" fn boughladder_delete(slots: &mut [u32], counters: &mut [u32], items: &mut [u64], animal: u64) -> u32
-    ensures {
-        λ r. ⌜ (r ≡ number
-        (lent-call 4 4 sizes (mem (now (slots .entry)) (now (counters .entry)) (now (items .entry))) (delete animal) .answer))
-        × (mem (now (slots .exit)) (now (counters .exit)) (now (items .exit))
-        ≡ lent-after 4 4 sizes (mem (now (slots .entry)) (now (counters .entry)) (now (items .entry))) (delete animal)) ⌝
-    }
+pub extern "C" fn boughladder_delete(
+    slots: &mut [u32],
+    counters: &mut [u32],
+    items: &mut [u64],
+    animal: u64,
+) -> u32
+    ensures { λ r. ⌜ WholeIn number (mem (now (slots .entry)) (now (counters .entry)) (now (items .entry))) (delete animal)
+        (mem (now (slots .exit)) (now (counters .exit)) (now (items .exit))) r ⌝ }
 {
     let told = writing::delete(slots, counters, items, animal);
     dress_deleting(told)
@@ -331,12 +334,8 @@ pub extern "C" fn boughladder_delete_cut(
     animal: u64,
     k: u64,
 ) -> u32
-    ensures {
-        λ r. ⌜ (r ≡ number
-        (lent-call 4 4 sizes (mem (now (slots .entry)) (now (counters .entry)) (now (items .entry))) (delete animal) .answer))
-        × (mem (now (slots .exit)) (now (counters .exit)) (now (items .exit))
-        ≡ lent-cut 4 4 sizes k (mem (now (slots .entry)) (now (counters .entry)) (now (items .entry))) (delete animal)) ⌝
-    }
+    ensures { λ r. ⌜ CutIn number (mem (now (slots .entry)) (now (counters .entry)) (now (items .entry))) (delete animal) k
+        (mem (now (slots .exit)) (now (counters .exit)) (now (items .exit))) r ⌝ }
 {
     let told = writing::delete_cut(slots, counters, items, animal, k);
     dress_deleting(told)
@@ -349,13 +348,8 @@ pub extern "C" fn boughladder_evict(
     items: &mut [u64],
     hand: usize,
 ) -> BoughladderEvicting
-    ensures {
-        λ r. ⌜ (r ≡ evicting-clothes
-        (hand-back hand (lent-call 4 4 sizes (mem (now (slots .entry)) (now (counters .entry)) (now (items .entry))) (evict hand) .answer))
-        (lent-call 4 4 sizes (mem (now (slots .entry)) (now (counters .entry)) (now (items .entry))) (evict hand) .answer))
-        × (mem (now (slots .exit)) (now (counters .exit)) (now (items .exit))
-        ≡ lent-after 4 4 sizes (mem (now (slots .entry)) (now (counters .entry)) (now (items .entry))) (evict hand)) ⌝
-    }
+    ensures { λ r. ⌜ WholeIn (evicting-clothes hand) (mem (now (slots .entry)) (now (counters .entry)) (now (items .entry))) (evict hand)
+        (mem (now (slots .exit)) (now (counters .exit)) (now (items .exit))) r ⌝ }
 {
     let turned = evicting::evict(slots, counters, items, Hand { at: hand });
     let told = turned.answer;
@@ -372,13 +366,8 @@ pub extern "C" fn boughladder_evict_cut(
     hand: usize,
     k: u64,
 ) -> BoughladderEvicting
-    ensures {
-        λ r. ⌜ (r ≡ evicting-clothes
-        (hand-back hand (lent-call 4 4 sizes (mem (now (slots .entry)) (now (counters .entry)) (now (items .entry))) (evict hand) .answer))
-        (lent-call 4 4 sizes (mem (now (slots .entry)) (now (counters .entry)) (now (items .entry))) (evict hand) .answer))
-        × (mem (now (slots .exit)) (now (counters .exit)) (now (items .exit))
-        ≡ lent-cut 4 4 sizes k (mem (now (slots .entry)) (now (counters .entry)) (now (items .entry))) (evict hand)) ⌝
-    }
+    ensures { λ r. ⌜ CutIn (evicting-clothes hand) (mem (now (slots .entry)) (now (counters .entry)) (now (items .entry))) (evict hand) k
+        (mem (now (slots .exit)) (now (counters .exit)) (now (items .exit))) r ⌝ }
 {
     let turned = evicting::evict_cut(slots, counters, items, Hand { at: hand }, k);
     let told = turned.answer;
@@ -387,14 +376,13 @@ pub extern "C" fn boughladder_evict_cut(
 }
 
 #[no_mangle]
-pub extern "C" fn boughladder_list(slots: &[u32], counters: &[u32], items: &[u64], buffer: &mut [u8]) -> BoughladderListing
-    ensures {
-        λ r. ⌜ (r ≡ listing-clothes
-        (list-answer (mem (now (slots .entry)) (now (counters .entry)) (now (items .entry))) (now (buffer .entry))))
-        × (now (buffer .exit)
-        ≡ listed-into (list-answer (mem (now (slots .entry)) (now (counters .entry)) (now (items .entry))) (now (buffer .entry)))
-        (now (buffer .entry))) ⌝
-    }
+pub extern "C" fn boughladder_list(
+    slots: &[u32],
+    counters: &[u32],
+    items: &[u64],
+    buffer: &mut [u8],
+) -> BoughladderListing
+    ensures { λ r. ⌜ ListIn (mem (now (slots .entry)) (now (counters .entry)) (now (items .entry))) (now (buffer .entry)) (now (buffer .exit)) r ⌝ }
 {
     let told = listing::list(slots, counters, items, buffer);
     dress_listing(told)

@@ -52,6 +52,7 @@ maybe-standing f (w ∷ ws) = choose (same w (bytes "standing")) (ends (f true) 
 unfoldable pub entry : (ℕ → ℕ → ℕ → Bool → Line) → List (List ℕ) → Line
 entry f = up-to largest λ a. up-to largest-permission λ p. up-to largest λ m. maybe-standing (f a p m)
 
+-- after `cut K`: a set, a delete or an evict
 unfoldable pub cut-call : ℕ → List (List ℕ) → Line
 cut-call k [] = line.NotUnderstood
 cut-call k (w ∷ ws) =
@@ -59,6 +60,7 @@ cut-call k (w ∷ ws) =
     (choose (same w (bytes "delete")) (one largest (line.CutDelete k) ws)
     (choose (same w (bytes "evict")) (ends (line.CutEvict k) ws) line.NotUnderstood))
 
+-- after `poke`: a run, an index and a word
 unfoldable pub poke-call : List (List ℕ) → Line
 poke-call [] = line.NotUnderstood
 poke-call (w ∷ ws) =
@@ -66,7 +68,7 @@ poke-call (w ∷ ws) =
     (choose (same w (bytes "counters")) (two line.PokeCounters ws)
     (choose (same w (bytes "items")) (two line.PokeItems ws) line.NotUnderstood))
 
--- a call by its name and the words after it
+-- a call by its name and the words after it: five of the eleven
 unfoldable pub other-call : List ℕ → List (List ℕ) → Line
 other-call w ws =
     choose (same w (bytes "hand")) (one largest line.Hand ws)
@@ -75,6 +77,7 @@ other-call w ws =
     (choose (same w (bytes "poke")) (poke-call ws)
     (choose (same w (bytes "dump")) (ends line.Dump ws) line.NotUnderstood))))
 
+-- all eleven
 unfoldable pub call : List ℕ → List (List ℕ) → Line
 call w ws =
     choose (same w (bytes "fresh")) (three line.Fresh ws)
@@ -88,6 +91,6 @@ unfoldable pub meaning : List (List ℕ) → Line
 meaning [] = line.Blank
 meaning (w ∷ ws) = call w ws
 
--- the bytes of a line without its LF
+-- what the bytes of a line mean, given without its LF
 unfoldable pub line-of : List ℕ → Line
 line-of bs = meaning (words (without-comment (without-return bs)))

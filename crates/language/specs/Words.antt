@@ -36,6 +36,7 @@ is-no-gap b = not (is-gap b)
 unfoldable pub without-return : List ℕ → List ℕ
 without-return bs = choose (eqb (getD bs (length bs - 1) 0) (code "\r")) (take (length bs - 1) bs) bs
 
+-- nor is a comment part of what a line says
 unfoldable pub without-comment : List ℕ → List ℕ
 without-comment bs = before is-comment bs
 
@@ -56,6 +57,7 @@ filled [] = []
 filled ([] ∷ ps) = filled ps
 filled ((b ∷ p) ∷ ps) = (b ∷ p) ∷ filled ps
 
+-- the words of a line
 unfoldable pub words : List ℕ → List (List ℕ)
 words bs = filled (pieces bs)
 

@@ -100,13 +100,13 @@ fn word_end(line: &[u8], at: usize) -> usize
 }
 
 // Where a word of a line starts and ends; it is empty if there is none.
-pub struct Word {
-    pub start: usize,
-    pub end: usize,
+struct Word {
+    start: usize,
+    end: usize,
 }
 
 // The next word from `at` on.
-pub fn next_word(line: &[u8], at: usize) -> Word
+fn next_word(line: &[u8], at: usize) -> Word
     requires { ⌜ at ≤ length (now line) ⌝ }
     ensures { λ r. ⌜ NextWord (now (line .entry)) at r ⌝ }
 {
@@ -132,8 +132,8 @@ fn is_word(word: &[u8], name: &[u8]) -> bool
     true
 }
 
-// The number that a word is, if it is one.
-pub enum Number {
+// What a word says, if it is a number.
+enum Number {
     Value(u64),
     Not,
 }
@@ -144,8 +144,8 @@ fn wide(b: u8) -> u64
     b as u64
 }
 
-// A word of decimal digits whose number is at most `top`.
-pub fn number_of(word: &[u8], top: u64) -> Number
+// The number of a word of decimal digits, if it is at most `top`: tested digit by digit, so that no product wraps.
+fn number_of(word: &[u8], top: u64) -> Number
     ensures { λ r. ⌜ told r ≡ number top (now (word .entry)) ⌝ }
 {
     if word.len() == 0 {
@@ -174,7 +174,7 @@ pub fn number_of(word: &[u8], top: u64) -> Number
     Number::Value(v)
 }
 
-// A number in a line, if it is good, and the position behind it.
+// A number in a line, if it is good, and the position behind it. The bounds of its fields hold in any case.
 struct Taken {
     good: bool,
     value: u64,
@@ -522,7 +522,7 @@ fn poke_line(line: &[u8], at: usize) -> Line
     Line::NotUnderstood
 }
 
-// The calls that are not on the table alone.
+// Five of the eleven names; apart, because all eleven in one function are more than the search reads.
 fn other_call_line(name: &[u8], line: &[u8], at: usize) -> Line
     requires { ⌜ at ≤ length (now line) ⌝ }
     ensures { λ r. ⌜ r ≡ other-call (now (name .entry)) (words (drop at (now (line .entry)))) ⌝ }
@@ -545,7 +545,7 @@ fn other_call_line(name: &[u8], line: &[u8], at: usize) -> Line
     Line::NotUnderstood
 }
 
-// A call by its name, with the words from `at` on.
+// A call by its name, and by the words from `at` on.
 fn call_line(name: &[u8], line: &[u8], at: usize) -> Line
     requires { ⌜ at ≤ length (now line) ⌝ }
     ensures { λ r. ⌜ r ≡ call (now (name .entry)) (words (drop at (now (line .entry)))) ⌝ }
@@ -598,7 +598,7 @@ fn length_without_return(line: &[u8]) -> usize
     n
 }
 
-// What a line says: its bytes without the LF.
+// What a line says: its bytes are given without the LF.
 pub fn parse_line(line: &[u8]) -> Line
     ensures { λ r. ⌜ r ≡ line-of (now (line .entry)) ⌝ }
 {

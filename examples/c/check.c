@@ -1,0 +1,411 @@
+/*
+ * Checks include/boughladder.h and libboughladder.a against each other: the layout of each struct, each call with known
+ * answers (document 01's examples), and garbage memory of any length in blocks of their own, so that valgrind sees a
+ * read or a write outside. `check ROUNDS` prints one line, `N checks passed`, or the checks that failed.
+ */
+#include <stdio.h>
+#include <stdlib.h>
+#include <string.h>
+
+#include "boughladder.h"
+
+static unsigned long passed, failed;
+
+static void check(int holds, const char *what, int line) {
+    if (holds) {
+        passed++;
+    } else if (failed++ < 20) {
+        printf("check.c:%d: %s\n", line, what);
+    }
+}
+#define CHECK(fact) check((fact) ? 1 : 0, #fact, __LINE__)
+
+/* A table in three blocks of exactly the lent lengths, and a copy to compare with. */
+typedef struct {
+    size_t s, c, i;
+    uint32_t *slots, *counters;
+    uint64_t *items;
+} Table;
+
+static void *block(size_t bytes) {
+    void *p = malloc(bytes == 0 ? 1 : bytes);
+    if (p == NULL) abort();
+    return p;
+}
+
+static Table lend(size_t s, size_t c, size_t i) {
+    Table t;
+    t.s = s, t.c = c, t.i = i;
+    t.slots = (uint32_t *)block(4 * s);
+    t.counters = (uint32_t *)block(4 * c);
+    t.items = (uint64_t *)block(8 * i);
+    memset(t.slots, 0, 4 * s), memset(t.counters, 0, 4 * c), memset(t.items, 0, 8 * i);
+    return t;
+}
+
+static void copy(Table *to, const Table *t) {
+    memcpy(to->slots, t->slots, 4 * t->s), memcpy(to->counters, t->counters, 4 * t->c);
+    memcpy(to->items, t->items, 8 * t->i);
+}
+
+static int same(const Table *a, const Table *b) {
+    return memcmp(a->slots, b->slots, 4 * a->s) == 0 && memcmp(a->counters, b->counters, 4 * a->c) == 0 &&
+           memcmp(a->items, b->items, 8 * a->i) == 0;
+}
+
+static void give_back(Table *t) { free(t->slots), free(t->counters), free(t->items); }
+
+#define LENT(t) (t).slots, (t).s, (t).counters, (t).c, (t).items, (t).i
+
+static int reads(BoughladderReading r, unsigned refusal, unsigned kind, uint32_t permission, uint64_t age) {
+    return r.refusal == refusal && r.kind == kind && r.permission == permission && r.age == age;
+}
+
+static int finds(BoughladderFinding r, uint32_t refusal, uint32_t kind, size_t place) {
+    return r.refusal == refusal && r.kind == kind && r.place == place;
+}
+
+static int sets(BoughladderSetting r, uint32_t refusal, size_t visits, size_t moves) {
+    return r.refusal == refusal && r.visits == visits && r.moves == moves;
+}
+
+static int evicts(BoughladderEvicting r, uint32_t refusal, uint64_t victim, size_t looked, size_t hand) {
+    return r.refusal == refusal && r.victim == victim && r.looked == looked && r.hand == hand;
+}
+
+static int lists(BoughladderListing r, uint32_t refusal, size_t count) {
+    return r.refusal == refusal && r.count == count;
+}
+
+static void layout(void) {
+    CHECK(sizeof(BoughladderReading) == 16);
+    CHECK(offsetof(BoughladderReading, kind) == 2 && offsetof(BoughladderReading, permission) == 4);
+    CHECK(offsetof(BoughladderReading, age) == 8);
+    CHECK(sizeof(BoughladderFinding) == 16);
+    CHECK(offsetof(BoughladderFinding, kind) == 4 && offsetof(BoughladderFinding, place) == 8);
+    CHECK(sizeof(BoughladderSetting) == 24);
+    CHECK(offsetof(BoughladderSetting, visits) == 8 && offsetof(BoughladderSetting, moves) == 16);
+    CHECK(sizeof(BoughladderEvicting) == 32);
+    CHECK(offsetof(BoughladderEvicting, victim) == 8 && offsetof(BoughladderEvicting, looked) == 16);
+    CHECK(offsetof(BoughladderEvicting, hand) == 24);
+    CHECK(sizeof(BoughladderListing) == 16);
+    CHECK(offsetof(BoughladderListing, count) == 8);
+}
+
+static uint32_t fnv(const void *bytes, size_t n) {
+    const uint8_t *b = (const uint8_t *)bytes;
+    uint32_t h = 2166136261u;
+    for (size_t i = 0; i < n; i++) h = boughladder_fnv_byte(h, b[i]);
+    return h;
+}
+
+static void hashes(void) {
+    const uint8_t one[8] = {1, 0, 0, 0, 0, 0, 0, 0};
+    CHECK(fnv("", 0) == 0x811c9dc5u);
+    CHECK(fnv("a", 1) == 0xe40c292cu);
+    CHECK(fnv("foobar", 6) == 0xbf9cf968u);
+    CHECK(fnv(one, 8) == 0x3e801244u);
+}
+
+static uint32_t shape(size_t s, size_t c, size_t i) {
+    Table t = lend(s, c, i);
+    uint32_t r = boughladder_fresh(LENT(t));
+    give_back(&t);
+    return r;
+}
+
+static void shapes(void) {
+    CHECK(shape(8, 1, 4) == 0);
+    CHECK(shape(4, 1, 4) == 1);
+    CHECK(shape(12, 1, 4) == 1);
+    CHECK(shape(8192, 1, 4) == 0);
+    CHECK(shape(16384, 1, 4) == 1);
+    CHECK(shape(8, 0, 4) == 1);
+    CHECK(shape(8, 1024, 4) == 0);
+    CHECK(shape(8, 1025, 4) == 1);
+    CHECK(shape(8, 1, 0) == 1);
+    CHECK(shape(8, 1, 6) == 1);
+    CHECK(shape(8, 1, 16384) == 0);
+    CHECK(shape(8, 1, 16388) == 1);
+}
+
+static void ages(void) {
+    Table t = lend(16, 4, 36);
+    CHECK(boughladder_fresh(LENT(t)) == 0);
+    CHECK(sets(boughladder_set(LENT(t), 7, 5, 100, 0), 0, 1, 0));
+    CHECK(reads(boughladder_read(LENT(t), 7, 720, 820), 0, BOUGHLADDER_FRESH, 5, 720));
+    CHECK(reads(boughladder_read(LENT(t), 7, 720, 821), 0, BOUGHLADDER_OLD, 0, 721));
+    CHECK(reads(boughladder_read(LENT(t), 7, 720, 99), 0, BOUGHLADDER_AHEAD, 0, 0));
+    CHECK(reads(boughladder_read(LENT(t), 8, 720, 100), 0, BOUGHLADDER_ABSENT, 0, 0));
+    CHECK(reads(boughladder_read(LENT(t), 0, 720, 100), BOUGHLADDER_NO_ANIMAL, 0, 0, 0));
+    CHECK(reads(boughladder_read(LENT(t), 7, 10080, 10180), 0, BOUGHLADDER_FRESH, 5, 10080));
+    CHECK(reads(boughladder_read(LENT(t), 7, 10081, 100), BOUGHLADDER_BAD_TIME, 0, 0, 0));
+    CHECK(reads(boughladder_read(LENT(t), 7, 720, UINT64_MAX), BOUGHLADDER_BAD_TIME, 0, 0, 0));
+    CHECK(sets(boughladder_set(LENT(t), 7, 6, UINT64_MAX, 0), BOUGHLADDER_BAD_TIME, 0, 0));
+
+    /* An update; then a standing permission, which is fresh at any minute. Any standing but 0 will do. */
+    CHECK(sets(boughladder_set(LENT(t), 7, UINT32_MAX, 200, 0), 0, 0, 0));
+    CHECK(reads(boughladder_read(LENT(t), 7, 0, 200), 0, BOUGHLADDER_FRESH, UINT32_MAX, 0));
+    CHECK(sets(boughladder_set(LENT(t), 7, 6, 200, 0x80000000u), 0, 0, 0));
+    CHECK(reads(boughladder_read(LENT(t), 7, 0, UINT64_MAX - 1), 0, BOUGHLADDER_FRESH, 6, 0));
+    CHECK(t.items[2] == UINT64_MAX);
+
+    /* Serve marks where the answer is fresh, and nowhere else. */
+    CHECK(sets(boughladder_set(LENT(t), 7, 5, 100, 0), 0, 0, 0));
+    CHECK(t.items[0] == 7 && t.items[1] == 5 && t.items[2] == 100 && t.items[3] == 1);
+    t.items[3] = 0;
+    CHECK(reads(boughladder_serve(LENT(t), 7, 720, 821), 0, BOUGHLADDER_OLD, 0, 721) && t.items[3] == 0);
+    CHECK(reads(boughladder_serve(LENT(t), 7, 720, 99), 0, BOUGHLADDER_AHEAD, 0, 0) && t.items[3] == 0);
+    CHECK(reads(boughladder_read(LENT(t), 7, 720, 820), 0, BOUGHLADDER_FRESH, 5, 720) && t.items[3] == 0);
+    CHECK(reads(boughladder_serve(LENT(t), 7, 720, 820), 0, BOUGHLADDER_FRESH, 5, 720) && t.items[3] == 1);
+    CHECK(reads(boughladder_serve(LENT(t), 8, 720, 820), 0, BOUGHLADDER_ABSENT, 0, 0));
+    CHECK(reads(boughladder_serve(LENT(t), 0, 720, 820), BOUGHLADDER_NO_ANIMAL, 0, 0, 0));
+
+    CHECK(finds(boughladder_find(LENT(t), 7), 0, BOUGHLADDER_AT_PLACE, 0));
+    CHECK(finds(boughladder_find(LENT(t), 8), 0, BOUGHLADDER_ABSENT, 0));
+    CHECK(finds(boughladder_find(LENT(t), 0), BOUGHLADDER_NO_ANIMAL, 0, 0));
+
+    /* Delete, and delete again. */
+    CHECK(boughladder_delete(LENT(t), 0) == BOUGHLADDER_NO_ANIMAL);
+    CHECK(boughladder_delete(LENT(t), 7) == 0);
+    CHECK(boughladder_delete(LENT(t), 7) == BOUGHLADDER_NOBODY);
+    CHECK(t.items[0] == 0 && t.items[1] == 0 && t.items[2] == 0 && t.items[3] == 0);
+    CHECK(reads(boughladder_read(LENT(t), 7, 720, 820), 0, BOUGHLADDER_ABSENT, 0, 0));
+    give_back(&t);
+}
+
+static void moves(void) {
+    /* N = 4: one move after five visits. */
+    static const uint64_t herd[8] = {358, 687, 1012, 1334, 248, 734, 913, 1710};
+    static const uint32_t words[16] = {65536, 65537, 13107208, 65539, 65540, 65541, 65542, 65543,
+                                       0,     0,     0,        0,     131074, 0,    0,     0};
+    static const uint64_t small[12] = {1, 5, 9, 13, 12, 16, 20, 24, 2, 6, 10, 14};
+    Table t = lend(16, 4, 36), u, v;
+    uint32_t first, second;
+    CHECK(boughladder_fresh(LENT(t)) == 0);
+    for (uint32_t k = 0; k < 8; k++) CHECK(sets(boughladder_set(LENT(t), herd[k], k, 100, 0), 0, 1, 0));
+    CHECK(t.counters[0] == 16);
+    CHECK(sets(boughladder_set(LENT(t), 5, 9, 100, 0), 0, 5, 1));
+    for (size_t k = 0; k < 16; k++) CHECK(t.slots[k] == words[k]);
+    CHECK(t.counters[0] == 20);
+    for (uint32_t k = 0; k < 8; k++)
+        CHECK(reads(boughladder_read(LENT(t), herd[k], 720, 100), 0, BOUGHLADDER_FRESH, k, 0));
+    CHECK(reads(boughladder_read(LENT(t), 5, 720, 100), 0, BOUGHLADDER_FRESH, 9, 0));
+    CHECK(sets(boughladder_set(LENT(t), 6, 9, 100, 0), BOUGHLADDER_NO_PLACE, 0, 0));
+    give_back(&t);
+
+    /* N = 2: eight animals fill both buckets. */
+    u = lend(8, 1, 36);
+    CHECK(boughladder_fresh(LENT(u)) == 0);
+    for (uint64_t a = 1; a <= 8; a++) CHECK(sets(boughladder_set(LENT(u), a, 1, 100, 0), 0, 1, 0));
+    CHECK(sets(boughladder_set(LENT(u), 9, 1, 100, 0), BOUGHLADDER_NO_ROOM, 0, 0));
+    give_back(&u);
+
+    /* N = 4, one counter: two moves after twelve visits. */
+    v = lend(16, 1, 52);
+    CHECK(boughladder_fresh(LENT(v)) == 0);
+    for (uint32_t k = 0; k < 12; k++) CHECK(sets(boughladder_set(LENT(v), small[k], k, 100, 0), 0, 1, 0));
+    first = v.slots[0], second = v.slots[13];
+    CHECK(sets(boughladder_set(LENT(v), 17, 9, 100, 0), 0, 12, 2));
+    CHECK(v.slots[8] == second && v.slots[13] == first);
+    give_back(&v);
+}
+
+static void clocks(void) {
+    /* M = 3, all live and recent, hand 1. */
+    Table t = lend(16, 4, 12), u;
+    CHECK(boughladder_fresh(LENT(t)) == 0);
+    CHECK(evicts(boughladder_evict(LENT(t), 1), BOUGHLADDER_NOBODY, 0, 0, 1));
+    for (uint64_t a = 1; a <= 3; a++) CHECK(boughladder_set(LENT(t), a, 1, 100, 0).refusal == 0);
+    CHECK(evicts(boughladder_evict(LENT(t), 3), BOUGHLADDER_BAD_SHAPE, 0, 0, 3));
+    CHECK(evicts(boughladder_evict(LENT(t), SIZE_MAX), BOUGHLADDER_BAD_SHAPE, 0, 0, SIZE_MAX));
+    CHECK(evicts(boughladder_evict(LENT(t), 1), 0, 2, 4, 2));
+    CHECK(t.items[3] == 0 && t.items[11] == 0);
+
+    /* Only place 0 live, recent, hand 1; first with nothing but the clear made. */
+    CHECK(boughladder_delete(LENT(t), 3) == 0);
+    CHECK(reads(boughladder_serve(LENT(t), 1, 720, 100), 0, BOUGHLADDER_FRESH, 1, 0));
+    u = lend(16, 4, 12);
+    copy(&u, &t);
+    CHECK(evicts(boughladder_evict_cut(LENT(u), 1, 1), 0, 1, 6, 1));
+    CHECK(u.items[0] == 1 && u.items[3] == 0 && memcmp(u.slots, t.slots, 64) == 0);
+    CHECK(evicts(boughladder_evict(LENT(t), 1), 0, 1, 6, 1));
+    for (size_t k = 0; k < 12; k++) CHECK(t.items[k] == 0);
+    for (size_t k = 0; k < 16; k++) CHECK(t.slots[k] == 0);
+    give_back(&t), give_back(&u);
+}
+
+static void the_list(void) {
+    static const uint8_t record[20] = {1, 0, 0, 0, 0, 0, 0, 0, 5, 0, 0, 0, 2, 0, 0, 0, 0, 0, 0, 0};
+    uint8_t buffer[24];
+    Table t = lend(8, 1, 8);
+    memset(buffer, 0xee, sizeof buffer);
+    CHECK(boughladder_fresh(LENT(t)) == 0);
+    CHECK(lists(boughladder_list(LENT(t), buffer, 0), 0, 0));
+    CHECK(boughladder_set(LENT(t), 1, 5, 2, 0).refusal == 0);
+    CHECK(lists(boughladder_list(LENT(t), buffer, 19), BOUGHLADDER_SHORT_BUFFER, 0));
+    CHECK(buffer[0] == 0xee);
+    CHECK(lists(boughladder_list(LENT(t), buffer, 20), 0, 1));
+    CHECK(memcmp(buffer, record, 20) == 0);
+    CHECK(lists(boughladder_list(LENT(t), buffer, 24), 0, 1));
+    CHECK(buffer[20] == 0xee && buffer[23] == 0xee);
+    CHECK(lists(boughladder_list(t.slots, 7, t.counters, 1, t.items, 8, buffer, 24), BOUGHLADDER_BAD_SHAPE, 0));
+    give_back(&t);
+}
+
+static void cuts(void) {
+    /* Seven stores of a new entry: busy between the first and the last. */
+    for (uint64_t k = 0; k <= 9; k++) {
+        Table t = lend(16, 1, 36);
+        BoughladderReading r;
+        CHECK(boughladder_fresh(LENT(t)) == 0);
+        CHECK(sets(boughladder_set_cut(LENT(t), 7, 5, 100, 0, k), 0, 1, 0));
+        CHECK(t.counters[0] == (k == 0 ? 0u : k < 7 ? 1u : 2u));
+        CHECK(t.items[0] == (k < 2 ? 0u : 7u) && t.items[1] == (k < 3 ? 0u : 5u));
+        CHECK(t.items[2] == (k < 4 ? 0u : 100u) && t.items[3] == (k < 5 ? 0u : 1u));
+        r = boughladder_read(LENT(t), 7, 720, 100);
+        CHECK(k == 0   ? reads(r, 0, BOUGHLADDER_ABSENT, 0, 0)
+              : k < 7 ? reads(r, BOUGHLADDER_BUSY, 0, 0, 0)
+                      : reads(r, 0, BOUGHLADDER_FRESH, 5, 0));
+        if (0 < k && k < 7) {
+            CHECK(boughladder_delete(LENT(t), 7) == BOUGHLADDER_BUSY);
+            CHECK(sets(boughladder_set(LENT(t), 7, 5, 100, 0), BOUGHLADDER_BUSY, 0, 0));
+            CHECK(finds(boughladder_find(LENT(t), 7), BOUGHLADDER_BUSY, 0, 0));
+            CHECK(boughladder_fresh(LENT(t)) == 0);
+            CHECK(sets(boughladder_set(LENT(t), 7, 5, 100, 0), 0, 1, 0));
+        }
+        give_back(&t);
+    }
+    /* Seven stores of a delete. */
+    for (uint64_t k = 0; k <= 9; k++) {
+        Table t = lend(16, 1, 36);
+        CHECK(boughladder_fresh(LENT(t)) == 0);
+        CHECK(boughladder_set(LENT(t), 7, 5, 100, 0).refusal == 0);
+        CHECK(boughladder_delete_cut(LENT(t), 8, k) == BOUGHLADDER_NOBODY);
+        CHECK(boughladder_delete_cut(LENT(t), 7, k) == 0);
+        CHECK(t.counters[0] == (k == 0 ? 2u : k < 7 ? 3u : 4u));
+        CHECK(t.items[0] == (k < 3 ? 7u : 0u) && t.items[3] == (k < 6 ? 1u : 0u));
+        CHECK(evicts(boughladder_evict(LENT(t), 8), k == 0 ? 0 : k < 3 ? BOUGHLADDER_BUSY : BOUGHLADDER_NOBODY,
+                     k == 0 ? 7 : 0, k == 0 ? 11 : 0, k == 0 ? 1 : 8));
+        give_back(&t);
+    }
+}
+
+/* xorshift: the same garbage in every run. */
+static uint64_t state = 88172645463325252u;
+
+static uint64_t any(void) {
+    state ^= state << 13, state ^= state >> 7, state ^= state << 17;
+    return state;
+}
+
+static uint64_t edge(void) {
+    switch (any() % 6) {
+        case 0: return any();
+        case 1: return any() % 10090;
+        case 2: return UINT64_MAX - any() % 3;
+        default: return any() % 40;
+    }
+}
+
+/* Garbage of some kind: words of any value, words that look right, few words, or a table that calls have made. */
+static void spoil(Table *t) {
+    unsigned kind = any() % 6;
+    uint64_t places = t->i / 4 == 0 ? 1 : t->i / 4;
+    if (kind > 3) {
+        boughladder_fresh(LENT(*t));
+        for (uint64_t n = any() % 60; n > 0; n--) boughladder_set(LENT(*t), any() % 40, (uint32_t)n, any() % 40, n % 9 == 0);
+        for (size_t k = 3; k < t->i; k += 4) t->items[k] = any() % 2;
+        if (kind == 5 && t->s > 0) t->slots[any() % t->s] ^= (uint32_t)1 << any() % 32;
+        return;
+    }
+    for (size_t k = 0; k < t->s; k++)
+        t->slots[k] = kind == 0 ? (uint32_t)any()
+                      : kind == 1 || any() % 4 == 0 ? (uint32_t)((any() % 255 + 1) * 65536 + any() % places) : 0;
+    for (size_t k = 0; k < t->c; k++)
+        t->counters[k] = kind == 0 ? (uint32_t)any() : any() % 9 == 0 ? 7 : UINT32_MAX - 1;
+    for (size_t k = 0; k < t->i; k++) t->items[k] = kind == 3 && any() % 2 ? 0 : edge();
+}
+
+/* Every call on garbage: a refusal changes nothing, and the largest cut is the whole call. */
+static void garbage(size_t s, size_t c, size_t i) {
+    Table t = lend(s, c, i), before = lend(s, c, i), whole = lend(s, c, i);
+    size_t bytes = any() % 3 == 0 ? any() % 64 : 5 * i, hand = (size_t)(any() % 3 == 0 ? edge() : any() % (i / 4 + 1));
+    uint8_t *buffer = (uint8_t *)block(bytes);
+    uint64_t animal = edge(), limit = edge(), now = edge(), k = any() % 12;
+    uint32_t permission = (uint32_t)any(), standing = (uint32_t)(any() % 2), refusal, cut;
+    BoughladderReading r, served;
+    BoughladderSetting set, set_cut;
+    BoughladderEvicting out, out_cut;
+    BoughladderListing list;
+    memset(buffer, 0xee, bytes);
+    spoil(&t);
+    copy(&before, &t);
+
+    r = boughladder_read(LENT(t), animal, limit, now);
+    CHECK(same(&t, &before) && r.refusal <= 10 && r.kind <= 3);
+    served = boughladder_serve(LENT(t), animal, limit, now);
+    CHECK(reads(served, r.refusal, r.kind, r.permission, r.age));
+    CHECK(same(&t, &before) || r.kind == BOUGHLADDER_FRESH);
+    copy(&t, &before);
+    CHECK(boughladder_find(LENT(t), animal).refusal <= 10 && same(&t, &before));
+
+    set = boughladder_set(LENT(t), animal, permission, now, standing);
+    CHECK(set.refusal <= 10 && (set.refusal == 0 || same(&t, &before)));
+    copy(&whole, &t), copy(&t, &before);
+    set_cut = boughladder_set_cut(LENT(t), animal, permission, now, standing, UINT64_MAX);
+    CHECK(sets(set_cut, set.refusal, set.visits, set.moves) && same(&t, &whole));
+    copy(&t, &before);
+    set_cut = boughladder_set_cut(LENT(t), animal, permission, now, standing, k);
+    CHECK(sets(set_cut, set.refusal, set.visits, set.moves) && (k > 0 || same(&t, &before)));
+    copy(&t, &before);
+
+    refusal = boughladder_delete(LENT(t), animal);
+    CHECK(refusal <= 10 && (refusal == 0 || same(&t, &before)));
+    copy(&whole, &t), copy(&t, &before);
+    cut = boughladder_delete_cut(LENT(t), animal, UINT64_MAX);
+    CHECK(cut == refusal && same(&t, &whole));
+    copy(&t, &before);
+    cut = boughladder_delete_cut(LENT(t), animal, k);
+    CHECK(cut == refusal && (k > 0 || same(&t, &before)));
+    copy(&t, &before);
+
+    out = boughladder_evict(LENT(t), hand);
+    CHECK(out.refusal < 10 && (out.refusal == 0 || (out.hand == hand && same(&t, &before))));
+    copy(&whole, &t), copy(&t, &before);
+    out_cut = boughladder_evict_cut(LENT(t), hand, UINT64_MAX);
+    CHECK(evicts(out_cut, out.refusal, out.victim, out.looked, out.hand) && same(&t, &whole));
+    copy(&t, &before);
+    out_cut = boughladder_evict_cut(LENT(t), hand, k);
+    CHECK(evicts(out_cut, out.refusal, out.victim, out.looked, out.hand) && (k > 0 || same(&t, &before)));
+    copy(&t, &before);
+
+    list = boughladder_list(LENT(t), buffer, bytes);
+    CHECK(same(&t, &before) && (list.refusal == 0 ? 20 * list.count <= bytes : list.count == 0));
+    refusal = boughladder_fresh(LENT(t));
+    CHECK(refusal == r.refusal || r.refusal != 1);
+    CHECK(refusal == 1 ? same(&t, &before) : refusal == 0);
+    free(buffer), give_back(&t), give_back(&before), give_back(&whole);
+}
+
+int main(int n, char **words) {
+    int rounds = n > 1 ? atoi(words[1]) : 400;
+    layout(), hashes(), shapes(), ages(), moves(), clocks(), the_list(), cuts();
+    /* Each length from 0 on, of one run beside two good ones. */
+    for (size_t l = 0; l <= 2100; l++) {
+        garbage(l, 1 + any() % 8, 4 * (1 + any() % 8));
+        garbage((size_t)8 << any() % 4, l, 4 * (1 + any() % 8));
+        garbage((size_t)8 << any() % 4, 1 + any() % 8, l);
+    }
+    for (int round = 0; round < rounds; round++) {
+        garbage(any() % 5000, any() % 1200, any() % 5000);
+        garbage((size_t)8 << any() % 11, 1 + any() % 1024, 4 * (1 + any() % 1024));
+        for (int small = 0; small < 8; small++) garbage((size_t)8 << any() % 4, 1 + any() % 4, 4 * (1 + any() % 24));
+    }
+    if (failed != 0) {
+        printf("%lu checks failed\n", failed);
+        return 1;
+    }
+    printf("%lu checks passed\n", passed);
+    return 0;
+}
