@@ -1,0 +1,2 @@
+pub mod Poke
+pub mod Front
