@@ -6,11 +6,19 @@ ghost use Rattle.model.specs.Memory.{mem};
 ghost use Rattle.model.specs.Yard.{sizes};
 ghost use Rattle.model.specs.Answers.{read, serve, set-animal, delete, evict, hand-back};
 ghost use Rattle.answering.specs.Told.{Told, Whole, Cut, answer-of};
-
 use places::Hand;
 
 // Read, with the line of its answer.
-pub fn answer_read(slots: &[u32], counters: &[u32], items: &[u64], animal: u64, limit: u64, minute: u64, out: &mut [u8], at: usize) -> usize
+pub fn answer_read(
+    slots: &[u32],
+    counters: &[u32],
+    items: &[u64],
+    animal: u64,
+    limit: u64,
+    minute: u64,
+    out: &mut [u8],
+    at: usize,
+) -> usize
     requires { ⌜ at + 96 ≤ length (now out) ⌝ }
     ensures { λ r. ⌜ Told (answer-of (mem (now (slots .entry)) (now (counters .entry)) (now (items .entry))) (read animal limit minute))
         at (now (out .entry)) (now (out .exit)) r ⌝ }
@@ -20,7 +28,16 @@ pub fn answer_read(slots: &[u32], counters: &[u32], items: &[u64], animal: u64, 
 }
 
 // Serve.
-pub fn answer_serve(slots: &[u32], counters: &[u32], items: &mut [u64], animal: u64, limit: u64, minute: u64, out: &mut [u8], at: usize) -> usize
+pub fn answer_serve(
+    slots: &[u32],
+    counters: &[u32],
+    items: &mut [u64],
+    animal: u64,
+    limit: u64,
+    minute: u64,
+    out: &mut [u8],
+    at: usize,
+) -> usize
     requires { ⌜ at + 96 ≤ length (now out) ⌝ }
     ensures { λ r. ⌜ Whole (mem (now (slots .entry)) (now (counters .entry)) (now (items .entry))) (serve animal limit minute)
         (mem (now (slots .entry)) (now (counters .entry)) (now (items .exit))) at (now (out .entry)) (now (out .exit)) r ⌝ }
@@ -30,7 +47,17 @@ pub fn answer_serve(slots: &[u32], counters: &[u32], items: &mut [u64], animal: 
 }
 
 // Set.
-pub fn answer_set(slots: &mut [u32], counters: &mut [u32], items: &mut [u64], animal: u64, permission: u32, minute: u64, standing: bool, out: &mut [u8], at: usize) -> usize
+pub fn answer_set(
+    slots: &mut [u32],
+    counters: &mut [u32],
+    items: &mut [u64],
+    animal: u64,
+    permission: u32,
+    minute: u64,
+    standing: bool,
+    out: &mut [u8],
+    at: usize,
+) -> usize
     requires { ⌜ at + 96 ≤ length (now out) ⌝ }
     ensures { λ r. ⌜ Whole (mem (now (slots .entry)) (now (counters .entry)) (now (items .entry))) (set-animal animal permission minute standing)
         (mem (now (slots .exit)) (now (counters .exit)) (now (items .exit))) at (now (out .entry)) (now (out .exit)) r ⌝ }
@@ -39,17 +66,44 @@ pub fn answer_set(slots: &mut [u32], counters: &mut [u32], items: &mut [u64], an
     telling::put_setting(out, at, said)
 }
 
-pub fn answer_set_cut(slots: &mut [u32], counters: &mut [u32], items: &mut [u64], animal: u64, permission: u32, minute: u64, standing: bool, k: u64, out: &mut [u8], at: usize) -> usize
+pub fn answer_set_cut(
+    slots: &mut [u32],
+    counters: &mut [u32],
+    items: &mut [u64],
+    animal: u64,
+    permission: u32,
+    minute: u64,
+    standing: bool,
+    k: u64,
+    out: &mut [u8],
+    at: usize,
+) -> usize
     requires { ⌜ at + 96 ≤ length (now out) ⌝ }
     ensures { λ r. ⌜ Cut (mem (now (slots .entry)) (now (counters .entry)) (now (items .entry))) (set-animal animal permission minute standing) k
         (mem (now (slots .exit)) (now (counters .exit)) (now (items .exit))) at (now (out .entry)) (now (out .exit)) r ⌝ }
 {
-    let said = setting::set_cut(slots, counters, items, animal, permission, minute, standing, k);
+    let said = setting::set_cut(
+        slots,
+        counters,
+        items,
+        animal,
+        permission,
+        minute,
+        standing,
+        k,
+    );
     telling::put_setting(out, at, said)
 }
 
 // Delete.
-pub fn answer_delete(slots: &mut [u32], counters: &mut [u32], items: &mut [u64], animal: u64, out: &mut [u8], at: usize) -> usize
+pub fn answer_delete(
+    slots: &mut [u32],
+    counters: &mut [u32],
+    items: &mut [u64],
+    animal: u64,
+    out: &mut [u8],
+    at: usize,
+) -> usize
     requires { ⌜ at + 96 ≤ length (now out) ⌝ }
     ensures { λ r. ⌜ Whole (mem (now (slots .entry)) (now (counters .entry)) (now (items .entry))) (delete animal)
         (mem (now (slots .exit)) (now (counters .exit)) (now (items .exit))) at (now (out .entry)) (now (out .exit)) r ⌝ }
@@ -58,7 +112,15 @@ pub fn answer_delete(slots: &mut [u32], counters: &mut [u32], items: &mut [u64],
     telling::put_deleting(out, at, said)
 }
 
-pub fn answer_delete_cut(slots: &mut [u32], counters: &mut [u32], items: &mut [u64], animal: u64, k: u64, out: &mut [u8], at: usize) -> usize
+pub fn answer_delete_cut(
+    slots: &mut [u32],
+    counters: &mut [u32],
+    items: &mut [u64],
+    animal: u64,
+    k: u64,
+    out: &mut [u8],
+    at: usize,
+) -> usize
     requires { ⌜ at + 96 ≤ length (now out) ⌝ }
     ensures { λ r. ⌜ Cut (mem (now (slots .entry)) (now (counters .entry)) (now (items .entry))) (delete animal) k
         (mem (now (slots .exit)) (now (counters .exit)) (now (items .exit))) at (now (out .entry)) (now (out .exit)) r ⌝ }
@@ -74,7 +136,14 @@ pub struct Turn {
 }
 
 // Evict.
-pub fn answer_evict(slots: &mut [u32], counters: &mut [u32], items: &mut [u64], hand: usize, out: &mut [u8], at: usize) -> Turn
+pub fn answer_evict(
+    slots: &mut [u32],
+    counters: &mut [u32],
+    items: &mut [u64],
+    hand: usize,
+    out: &mut [u8],
+    at: usize,
+) -> Turn
     requires { ⌜ at + 96 ≤ length (now out) ⌝ }
     ensures { λ r. ⌜ Whole (mem (now (slots .entry)) (now (counters .entry)) (now (items .entry))) (evict hand)
         (mem (now (slots .exit)) (now (counters .exit)) (now (items .exit))) at (now (out .entry)) (now (out .exit)) (r .next) ⌝ }
@@ -87,7 +156,15 @@ pub fn answer_evict(slots: &mut [u32], counters: &mut [u32], items: &mut [u64], 
     Turn { next, hand: back }
 }
 
-pub fn answer_evict_cut(slots: &mut [u32], counters: &mut [u32], items: &mut [u64], hand: usize, k: u64, out: &mut [u8], at: usize) -> Turn
+pub fn answer_evict_cut(
+    slots: &mut [u32],
+    counters: &mut [u32],
+    items: &mut [u64],
+    hand: usize,
+    k: u64,
+    out: &mut [u8],
+    at: usize,
+) -> Turn
     requires { ⌜ at + 96 ≤ length (now out) ⌝ }
     ensures { λ r. ⌜ Cut (mem (now (slots .entry)) (now (counters .entry)) (now (items .entry))) (evict hand) k
         (mem (now (slots .exit)) (now (counters .exit)) (now (items .exit))) at (now (out .entry)) (now (out .exit)) (r .next) ⌝ }

@@ -1,7 +1,6 @@
 // Document 01's examples that no statement proves, and the published FNV-1a vectors: each on a line of its own.
 ghost use mathlib.Core.Path.{_≡_};
 ghost use Rattle.model.specs.Hash.{fnv};
-
 use libc::STDOUT_FILENO;
 use model::Evicting;
 use model::Reading;

@@ -40,14 +40,16 @@ module _ {bs : List ℕ} {at : ℕ} {w : Word} (inside : at ≤ length bs) (next
         record {
           small = number-small top v (part bs (w .start) (w .end)) (sym (ap told e) ∙ is);
           inside = next .inside;
-          taken = λ f. by-told f ∙ ap (λ (k : Number). given (told k) f (words (drop (w .end) bs))) e }
+          taken = λ f. by-told f ∙ ap (λ (k : Number). given (told k) f (words (drop (w .end) bs))) e;
+        }
 
     pub take-not : n ≡ numbers.Not → NextNumber bs at top (record { good = false; value = 0; next = at })
     take-not e =
         record {
           small = omega arith;
           inside = inside;
-          taken = λ f. by-told f ∙ ap (λ (k : Number). given (told k) f (words (drop (w .end) bs))) e }
+          taken = λ f. by-told f ∙ ap (λ (k : Number). given (told k) f (words (drop (w .end) bs))) e;
+        }
 
 -- no word is left
 pub at-end : {bs : List ℕ} {at : ℕ} {w : Word} → NextWord bs at w → eqb (w .start) (w .end) ≡ none-left (words (drop at bs))
@@ -90,14 +92,17 @@ module _ {bs : List ℕ} {at : ℕ} {a : Taken} (next : NextNumber bs at largest
         animal = a .value;
         permission = p .value;
         minute = m .value;
-        standing = s .standing })
+        standing = s .standing;
+      })
   unfolding entry
   entry-said {p} {m} {s} np nm ns =
-      record { said = λ f.
-        let l : Line = f (a .value) (p .value) (m .value) (s .standing) in
-        and-then next (λ x. up-to largest-permission λ y. up-to largest λ z. maybe-standing (f x y z)) (p .good && (m .good && s .good)) l
-        (and-then np (λ y. up-to largest λ z. maybe-standing (f (a .value) y z)) (m .good && s .good) l
-        (and-then nm (λ z. maybe-standing (f (a .value) (p .value) z)) (s .good) l (ns .said (f (a .value) (p .value) (m .value))))) }
+      record {
+        said = λ f.
+            let l : Line = f (a .value) (p .value) (m .value) (s .standing) in
+            and-then next (λ x. up-to largest-permission λ y. up-to largest λ z. maybe-standing (f x y z)) (p .good && (m .good && s .good)) l
+            (and-then np (λ y. up-to largest λ z. maybe-standing (f (a .value) y z)) (m .good && s .good) l
+            (and-then nm (λ z. maybe-standing (f (a .value) (p .value) z)) (s .good) l (ns .said (f (a .value) (p .value) (m .value)))));
+      }
 
 -- the end of a set line
 module _ {bs : List ℕ} {at : ℕ} {w : Word} (next : NextWord bs at w) where
@@ -109,8 +114,10 @@ module _ {bs : List ℕ} {at : ℕ} {w : Word} (next : NextWord bs at w) where
       → PerhapsStanding bs at (record { good = p && d; standing = true })
   unfolding maybe-standing
   stands {p} {d} ne e q =
-      record { said = λ f.
-        let step : maybe-standing f (words (drop at bs)) ≡ choose p (ends (f true) (words (drop (w .end) bs))) line.NotUnderstood =
-              rw (next .next-word ne, e) in
-        step ∙ ap (λ (x : Line). choose p x line.NotUnderstood) (ends-is (f true) (words (drop (w .end) bs)) q)
-        ∙ both p d (f true) line.NotUnderstood }
+      record {
+        said = λ f.
+            let step : maybe-standing f (words (drop at bs)) ≡ choose p (ends (f true) (words (drop (w .end) bs))) line.NotUnderstood =
+            rw (next .next-word ne, e) in
+            step ∙ ap (λ (x : Line). choose p x line.NotUnderstood) (ends-is (f true) (words (drop (w .end) bs)) q)
+            ∙ both p d (f true) line.NotUnderstood;
+      }

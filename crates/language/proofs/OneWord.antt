@@ -38,7 +38,7 @@ module _ {w n : List ℕ} {i : ℕ} (s : Alike w n i) where
   same-differ h ne =
       let hw : i < length w = omega (arith, s .long) in
       let q : same (drop i w) (drop i n) ≡ false =
-            rw (drop-cons w i 0 hw, drop-cons n i 0 h, ne-eqb (getD w i 0) (getD n i 0) ne) in
+      rw (drop-cons w i 0 hw, drop-cons n i 0 h, ne-eqb (getD w i 0) (getD n i 0) ne) in
       sym q ∙ s .ahead
 
   pub same-more : i < length n → getD w i 0 ≡ getD n i 0 → Alike w n (i + 1)
@@ -46,7 +46,7 @@ module _ {w n : List ℕ} {i : ℕ} (s : Alike w n i) where
   same-more h e =
       let hw : i < length w = omega (arith, s .long) in
       let q : same (drop i w) (drop i n) ≡ same (drop (i + 1) w) (drop (i + 1) n) =
-            rw (drop-cons w i 0 hw, drop-cons n i 0 h, eq-eqb (getD w i 0) (getD n i 0) e, add-one) in
+      rw (drop-cons w i 0 hw, drop-cons n i 0 h, eq-eqb (getD w i 0) (getD n i 0) e, add-one) in
       record { long = s .long; inside = omega arith; ahead = sym q ∙ s .ahead }
 
   pub same-end : length n ≤ i → true ≡ same w n
@@ -84,8 +84,8 @@ number-small top v [] = λ e. let z : _≡_ {A = ℕ} 0 1 = cc in omega arith
 number-small top v (d ∷ ds) =
     bool (λ t. some v ≡ choose t (choose (leb (value 0 (d ∷ ds)) top) (some (value 0 (d ∷ ds))) none) none → v ≤ top) (all-digits (d ∷ ds))
     (λ _. bool (λ t. leb (value 0 (d ∷ ds)) top ≡ t → some v ≡ choose t (some (value 0 (d ∷ ds))) none → v ≤ top) (leb (value 0 (d ∷ ds)) top)
-      (λ _ l e. let q : v ≡ value 0 (d ∷ ds) = cc in omega (arith, leb-true (value 0 (d ∷ ds)) top l))
-      (λ _ l e. let z : _≡_ {A = ℕ} 0 1 = cc in omega arith) refl)
+    (λ _ l e. let q : v ≡ value 0 (d ∷ ds) = cc in omega (arith, leb-true (value 0 (d ∷ ds)) top l))
+    (λ _ l e. let z : _≡_ {A = ℕ} 0 1 = cc in omega arith) refl)
     λ _ e. let z : _≡_ {A = ℕ} 0 1 = cc in omega arith
 
 -- a word read up to i makes v

@@ -138,7 +138,7 @@ module _ {text : List ℕ} {at : ℕ} {before after : List ℕ} {i : ℕ} (s : C
   pub copy-more : i < length text → Copying text at before (set after (at + i) (getD text i 0)) (i + 1)
   copy-more h =
       let q : sets after (at + i) (drop i text) ≡ sets (set after (at + i) (getD text i 0)) (at + (i + 1)) (drop (i + 1) text) =
-            let e : at + (i + 1) ≡ suc (at + i) = omega arith in rw (drop-cons text i 0 h, e, add-one) in
+      let e : at + (i + 1) ≡ suc (at + i) = omega arith in rw (drop-cons text i 0 h, e, add-one) in
       record { inside = omega arith; room = s .room; long = length-set after (at + i) (getD text i 0) ∙ s .long; ahead = sym q ∙ s .ahead }
 
   pub copy-done : length text ≤ i → Put text at before after (at + i)
@@ -160,7 +160,8 @@ print-first x tail h l =
       long = l;
       few = omega arith;
       left = omega arith;
-      ahead = ap (λ (t : List ℕ). decimal-of x ++ t) (drop-of-length-le tail k) ∙ append-nil (decimal-of x) }
+      ahead = ap (λ (t : List ℕ). decimal-of x ++ t) (drop-of-length-le tail k) ∙ append-nil (decimal-of x);
+    }
 
 -- one digit in front of those that are there
 stored : (tail : List ℕ) (i d : ℕ) → i < length tail → drop i (set tail i d) ≡ d ∷ drop (suc i) tail
@@ -190,11 +191,12 @@ module _ {x : ℕ} {tail : List ℕ} {rest n d : ℕ} (s : Printing x tail rest 
         few = room h;
         left = omega arith;
         ahead =
-          ap (λ (k : ℕ). decimal-of (rest / 10) ++ drop k (set tail (19 - n) d)) i
-          ∙ ap (λ (l : List ℕ). decimal-of (rest / 10) ++ l) one-more
-          ∙ sym (append-assoc (decimal-of (rest / 10)) (d ∷ []) (drop (20 - n) tail))
-          ∙ ap (λ (k : ℕ). (decimal-of (rest / 10) ++ (k ∷ [])) ++ drop (20 - n) tail) e
-          ∙ ap (λ (l : List ℕ). l ++ drop (20 - n) tail) (sym (decimal-large rest h)) ∙ s .ahead }
+            ap (λ (k : ℕ). decimal-of (rest / 10) ++ drop k (set tail (19 - n) d)) i
+            ∙ ap (λ (l : List ℕ). decimal-of (rest / 10) ++ l) one-more
+            ∙ sym (append-assoc (decimal-of (rest / 10)) (d ∷ []) (drop (20 - n) tail))
+            ∙ ap (λ (k : ℕ). (decimal-of (rest / 10) ++ (k ∷ [])) ++ drop (20 - n) tail) e
+            ∙ ap (λ (l : List ℕ). l ++ drop (20 - n) tail) (sym (decimal-large rest h)) ∙ s .ahead;
+      }
 
   pub print-room : 20 ≤ length (set tail (19 - n) d)
   print-room = omega (arith, length-set tail (19 - n) d, s .long)
@@ -250,6 +252,7 @@ pub put-both : {xs ys : List ℕ} {at r s : ℕ} {before middle after : List ℕ
 put-both {xs} {ys} {at} {r} {s} {before} {middle} {after} p q =
     record {
       bytes-put =
-        q .bytes-put ∙ ap₂ (λ (l : List ℕ) (k : ℕ). sets l k ys) (p .bytes-put) (p .next)
-        ∙ sets-both xs ys before at;
-      next = omega (arith, p .next, q .next, length-append xs ys) }
+          q .bytes-put ∙ ap₂ (λ (l : List ℕ) (k : ℕ). sets l k ys) (p .bytes-put) (p .next)
+          ∙ sets-both xs ys before at;
+      next = omega (arith, p .next, q .next, length-append xs ys);
+    }

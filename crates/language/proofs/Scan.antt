@@ -141,9 +141,9 @@ first-word bs ne =
 pub by-word : {bs : List ℕ} {at s e : ℕ} → First is-no-gap bs at s → First is-gap bs s e → NextWord bs at (record { start = s; end = e })
 by-word {bs} {at} {s} {e} fs fe =
     let past : drop (length (before is-no-gap (drop at bs))) (drop at bs) ≡ drop s bs =
-          drop-drop (length (before is-no-gap (drop at bs))) at bs ∙ ap (λ k. drop k bs) (sym (fs .first)) in
+    drop-drop (length (before is-no-gap (drop at bs))) at bs ∙ ap (λ k. drop k bs) (sym (fs .first)) in
     let behind : drop (length (before is-gap (drop s bs))) (drop s bs) ≡ drop e bs =
-          drop-drop (length (before is-gap (drop s bs))) s bs ∙ ap (λ k. drop k bs) (sym (fe .first)) in
+    drop-drop (length (before is-gap (drop s bs))) s bs ∙ ap (λ k. drop k bs) (sym (fe .first)) in
     let long : e - s ≡ length (before is-gap (drop s bs)) = omega (arith, fe .first) in
     record {
       forward = omega (arith, fe .first);
@@ -151,4 +151,5 @@ by-word {bs} {at} {s} {e} fs fe =
       none-left = λ q. only-gaps (drop at bs) (ap (λ (l : List ℕ). length (before is-gap l)) past ∙ omega (arith, long));
       next-word = λ ne. past-gaps (drop at bs) ∙ ap words past ∙ first-word (drop s bs) (λ z. ne (omega (arith, fe .first)))
           ∙ ap₂ (λ (w : List ℕ) (ws : List (List ℕ)). w ∷ ws)
-          (sym (before-take is-gap (drop s bs)) ∙ ap (λ k. take k (drop s bs)) (sym long)) (ap words behind) }
+          (sym (before-take is-gap (drop s bs)) ∙ ap (λ k. take k (drop s bs)) (sym long)) (ap words behind);
+    }

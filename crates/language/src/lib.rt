@@ -13,25 +13,70 @@ ghost use Rattle.language.specs.Print.{decimal-of, hex-digit, hex-of, Pu
 pub enum Line {
     Blank,
     NotUnderstood,
-    Fresh { slots: u64, counters: u64, items: u64 },
-    Set { animal: u64, permission: u32, minute: u64, standing: bool },
-    Read { animal: u64, limit: u64, minute: u64 },
-    Serve { animal: u64, limit: u64, minute: u64 },
-    Delete { animal: u64 },
+    Fresh {
+        slots: u64,
+        counters: u64,
+        items: u64,
+    },
+    Set {
+        animal: u64,
+        permission: u32,
+        minute: u64,
+        standing: bool,
+    },
+    Read {
+        animal: u64,
+        limit: u64,
+        minute: u64,
+    },
+    Serve {
+        animal: u64,
+        limit: u64,
+        minute: u64,
+    },
+    Delete {
+        animal: u64,
+    },
     Evict,
-    Hand { at: u64 },
-    CutSet { k: u64, animal: u64, permission: u32, minute: u64, standing: bool },
-    CutDelete { k: u64, animal: u64 },
-    CutEvict { k: u64 },
-    List { size: u64 },
-    PokeSlots { at: u64, word: u64 },
-    PokeCounters { at: u64, word: u64 },
-    PokeItems { at: u64, word: u64 },
+    Hand {
+        at: u64,
+    },
+    CutSet {
+        k: u64,
+        animal: u64,
+        permission: u32,
+        minute: u64,
+        standing: bool,
+    },
+    CutDelete {
+        k: u64,
+        animal: u64,
+    },
+    CutEvict {
+        k: u64,
+    },
+    List {
+        size: u64,
+    },
+    PokeSlots {
+        at: u64,
+        word: u64,
+    },
+    PokeCounters {
+        at: u64,
+        word: u64,
+    },
+    PokeItems {
+        at: u64,
+        word: u64,
+    },
     Dump,
 }
 
 const LARGEST: u64 = 18446744073709551615;
+
 const LARGEST_PERMISSION: u64 = 4294967295;
+
 const LARGEST_BUFFER: u64 = 81920;
 
 // The first LF at or after `at`, or the length.
@@ -189,12 +234,24 @@ fn take_number(line: &[u8], at: usize, top: u64) -> Taken
     let start = word.start;
     let end = word.end;
     if start == end {
-        return Taken { good: false, value: 0, next: at };
+        return Taken {
+            good: false,
+            value: 0,
+            next: at,
+        };
     }
     let n = number_of(&line[start..end], top);
     match n {
-        Number::Value(value) => Taken { good: true, value, next: end },
-        Number::Not => Taken { good: false, value: 0, next: at },
+        Number::Value(value) => Taken {
+            good: true,
+            value,
+            next: end,
+        },
+        Number::Not => Taken {
+            good: false,
+            value: 0,
+            next: at,
+        },
     }
 }
 
@@ -219,7 +276,10 @@ fn one_number(line: &[u8], at: usize, top: u64) -> One
 {
     let a = take_number(line, at, top);
     let done = is_at_end(line, a.next);
-    One { good: a.good & done, a: a.value }
+    One {
+        good: a.good & done,
+        a: a.value,
+    }
 }
 
 // Two numbers and no more.
@@ -235,7 +295,11 @@ fn two_numbers(line: &[u8], at: usize) -> Two
 {
     let a = take_number(line, at, LARGEST);
     let b = one_number(line, a.next, LARGEST);
-    Two { good: a.good & b.good, a: a.value, b: b.a }
+    Two {
+        good: a.good & b.good,
+        a: a.value,
+        b: b.a,
+    }
 }
 
 // Three numbers and no more.
@@ -252,7 +316,12 @@ fn three_numbers(line: &[u8], at: usize) -> Three
 {
     let a = take_number(line, at, LARGEST);
     let b = two_numbers(line, a.next);
-    Three { good: a.good & b.good, a: a.value, b: b.a, c: b.b }
+    Three {
+        good: a.good & b.good,
+        a: a.value,
+        b: b.a,
+        c: b.b,
+    }
 }
 
 // The end of a set line: nothing, or `standing`.
@@ -269,11 +338,17 @@ fn standing_at(line: &[u8], at: usize) -> Standing
     let start = word.start;
     let end = word.end;
     if start == end {
-        return Standing { good: true, standing: false };
+        return Standing {
+            good: true,
+            standing: false,
+        };
     }
     let named = is_word(&line[start..end], b"standing");
     let done = is_at_end(line, end);
-    Standing { good: named & done, standing: true }
+    Standing {
+        good: named & done,
+        standing: true,
+    }
 }
 
 // What a set line sets.
@@ -310,7 +385,11 @@ fn fresh_line(line: &[u8], at: usize) -> Line
     if !n.good {
         return Line::NotUnderstood;
     }
-    Line::Fresh { slots: n.a, counters: n.b, items: n.c }
+    Line::Fresh {
+        slots: n.a,
+        counters: n.b,
+        items: n.c,
+    }
 }
 
 fn read_line(line: &[u8], at: usize) -> Line
@@ -321,7 +400,11 @@ fn read_line(line: &[u8], at: usize) -> Line
     if !n.good {
         return Line::NotUnderstood;
     }
-    Line::Read { animal: n.a, limit: n.b, minute: n.c }
+    Line::Read {
+        animal: n.a,
+        limit: n.b,
+        minute: n.c,
+    }
 }
 
 fn serve_line(line: &[u8], at: usize) -> Line
@@ -332,7 +415,11 @@ fn serve_line(line: &[u8], at: usize) -> Line
     if !n.good {
         return Line::NotUnderstood;
     }
-    Line::Serve { animal: n.a, limit: n.b, minute: n.c }
+    Line::Serve {
+        animal: n.a,
+        limit: n.b,
+        minute: n.c,
+    }
 }
 
 fn set_line(line: &[u8], at: usize) -> Line
@@ -343,7 +430,12 @@ fn set_line(line: &[u8], at: usize) -> Line
     if !e.good {
         return Line::NotUnderstood;
     }
-    Line::Set { animal: e.animal, permission: e.permission, minute: e.minute, standing: e.standing }
+    Line::Set {
+        animal: e.animal,
+        permission: e.permission,
+        minute: e.minute,
+        standing: e.standing,
+    }
 }
 
 fn delete_line(line: &[u8], at: usize) -> Line
@@ -407,7 +499,13 @@ fn cut_set_line(line: &[u8], at: usize, k: u64) -> Line
     if !e.good {
         return Line::NotUnderstood;
     }
-    Line::CutSet { k, animal: e.animal, permission: e.permission, minute: e.minute, standing: e.standing }
+    Line::CutSet {
+        k,
+        animal: e.animal,
+        permission: e.permission,
+        minute: e.minute,
+        standing: e.standing,
+    }
 }
 
 fn cut_delete_line(line: &[u8], at: usize, k: u64) -> Line

@@ -13,11 +13,9 @@ ghost use Rattle.model.specs.Age.{verdict, is-fresh, bad-time};
 ghost use Rattle.model.specs.Lent.{lent-call};
 ghost use Rattle.model.specs.Said.{said-reading, said-finding};
 ghost use Rattle.reading.specs.Look.{words-of, home-words, tag-sum, leads, found-word, first-of, early, Passed, HomesIn, Served, LooksUp, slot-found};
-
 use hashing::Homes;
 use model::Finding;
 use model::Reading;
-
 
 // The word at i, 0 outside: what the definitions read there.
 pub fn get64(s: &[u64], i: usize) -> u64
@@ -63,15 +61,26 @@ pub fn home_words_of(slots: &[u32], first: u32, second: u32) -> Eight
     let w5 = slots[y + 1];
     let w6 = slots[y + 2];
     let w7 = slots[y + 3];
-    Eight { w0, w1, w2, w3, w4, w5, w6, w7 }
+    Eight {
+        w0,
+        w1,
+        w2,
+        w3,
+        w4,
+        w5,
+        w6,
+        w7,
+    }
 }
 
 // Refusal 4 looks at all eight words.
 pub fn any_damaged(e: Eight, m: u32) -> bool
     ensures { λ r. ⌜ r ≡ any (damaged m) (words-of e) ⌝ }
 {
-    let low = is_damaged(e.w4, m) | (is_damaged(e.w5, m) | (is_damaged(e.w6, m) | is_damaged(e.w7, m)));
-    is_damaged(e.w0, m) | (is_damaged(e.w1, m) | (is_damaged(e.w2, m) | (is_damaged(e.w3, m) | low)))
+    let low = is_damaged(e.w4, m)
+        | (is_damaged(e.w5, m) | (is_damaged(e.w6, m) | is_damaged(e.w7, m)));
+    is_damaged(e.w0, m)
+        | (is_damaged(e.w1, m) | (is_damaged(e.w2, m) | (is_damaged(e.w3, m) | low)))
 }
 
 // The word if it has the tag, else 0.
@@ -197,14 +206,20 @@ fn judged(permission: u64, stamp: u64, limit: u64, minute: u64) -> Reading
 {
     let told = (permission % 4294967296) as u32;
     if stamp == 18446744073709551615 {
-        return Reading::Fresh { permission: told, age: 0 };
+        return Reading::Fresh {
+            permission: told,
+            age: 0,
+        };
     }
     if minute < stamp {
         return Reading::Ahead;
     }
     let age = minute - stamp;
     if age <= limit {
-        return Reading::Fresh { permission: told, age };
+        return Reading::Fresh {
+            permission: told,
+            age,
+        };
     }
     Reading::Old { age }
 }
@@ -218,12 +233,17 @@ fn judged_at(items: &[u64], place: u32, limit: u64, minute: u64) -> Reading
 }
 
 // A read where no early refusal is due.
-fn read_good(slots: &[u32], counters: &[u32], items: &[u64], animal: u64, limit: u64, minute: u64) -> Reading
+fn read_good(
+    slots: &[u32],
+    counters: &[u32],
+    items: &[u64],
+    animal: u64,
+    limit: u64,
+    minute: u64,
+) -> Reading
     requires { ⌜ Passed (mem (now slots) (now counters) (now items)) animal (bad-time limit minute) ⌝ }
-    ensures {
-        λ r. ⌜ said-reading r
-        ≡ lent-call 4 4 sizes (mem (now (slots .entry)) (now (counters .entry)) (now (items .entry))) (read animal limit minute) .answer ⌝
-    }
+    ensures { λ r. ⌜ said-reading r
+        ≡ lent-call 4 4 sizes (mem (now (slots .entry)) (now (counters .entry)) (now (items .entry))) (read animal limit minute) .answer ⌝ }
 {
     let h = homes_in(slots, counters, items, animal);
     if is_odd(counters, h.counter) {
@@ -241,13 +261,24 @@ fn read_good(slots: &[u32], counters: &[u32], items: &[u64], animal: u64, limit:
     judged_at(items, w % 65536, limit, minute)
 }
 
-pub fn read(slots: &[u32], counters: &[u32], items: &[u64], animal: u64, limit: u64, minute: u64) -> Reading
-    ensures {
-        λ r. ⌜ said-reading r
-        ≡ lent-call 4 4 sizes (mem (now (slots .entry)) (now (counters .entry)) (now (items .entry))) (read animal limit minute) .answer ⌝
-    }
+pub fn read(
+    slots: &[u32],
+    counters: &[u32],
+    items: &[u64],
+    animal: u64,
+    limit: u64,
+    minute: u64,
+) -> Reading
+    ensures { λ r. ⌜ said-reading r
+        ≡ lent-call 4 4 sizes (mem (now (slots .entry)) (now (counters .entry)) (now (items .entry))) (read animal limit minute) .answer ⌝ }
 {
-    let no = refused_early(slots.len(), counters.len(), items.len(), animal, is_bad_time(limit, minute));
+    let no = refused_early(
+        slots.len(),
+        counters.len(),
+        items.len(),
+        animal,
+        is_bad_time(limit, minute),
+    );
     if no != 0 {
         return Reading::Refused(no);
     }
@@ -282,12 +313,17 @@ fn mark_recent(items: &mut [u64], place: u32, fresh: bool)
 }
 
 // A serve where no early refusal is due.
-fn serve_good(slots: &[u32], counters: &[u32], items: &mut [u64], animal: u64, limit: u64, minute: u64) -> Reading
+fn serve_good(
+    slots: &[u32],
+    counters: &[u32],
+    items: &mut [u64],
+    animal: u64,
+    limit: u64,
+    minute: u64,
+) -> Reading
     requires { ⌜ Passed (mem (now slots) (now counters) (now items)) animal (bad-time limit minute) ⌝ }
-    ensures {
-        λ r. ⌜ Served (mem (now (slots .entry)) (now (counters .entry)) (now (items .entry))) (serve animal limit minute)
-        (now (items .exit)) r ⌝
-    }
+    ensures { λ r. ⌜ Served (mem (now (slots .entry)) (now (counters .entry)) (now (items .entry))) (serve animal limit minute)
+        (now (items .exit)) r ⌝ }
 {
     let h = homes_in(slots, counters, items, animal);
     if is_odd(counters, h.counter) {
@@ -308,13 +344,24 @@ fn serve_good(slots: &[u32], counters: &[u32], items: &mut [u64], animal: u64, l
     told
 }
 
-pub fn serve(slots: &[u32], counters: &[u32], items: &mut [u64], animal: u64, limit: u64, minute: u64) -> Reading
-    ensures {
-        λ r. ⌜ Served (mem (now (slots .entry)) (now (counters .entry)) (now (items .entry))) (serve animal limit minute)
-        (now (items .exit)) r ⌝
-    }
+pub fn serve(
+    slots: &[u32],
+    counters: &[u32],
+    items: &mut [u64],
+    animal: u64,
+    limit: u64,
+    minute: u64,
+) -> Reading
+    ensures { λ r. ⌜ Served (mem (now (slots .entry)) (now (counters .entry)) (now (items .entry))) (serve animal limit minute)
+        (now (items .exit)) r ⌝ }
 {
-    let no = refused_early(slots.len(), counters.len(), items.len(), animal, is_bad_time(limit, minute));
+    let no = refused_early(
+        slots.len(),
+        counters.len(),
+        items.len(),
+        animal,
+        is_bad_time(limit, minute),
+    );
     if no != 0 {
         return Reading::Refused(no);
     }
@@ -340,26 +387,36 @@ pub fn look_up(slots: &[u32], counters: &[u32], items: &[u64], animal: u64) -> L
 {
     let homes = homes_in(slots, counters, items, animal);
     if is_odd(counters, homes.counter) {
-        return Looked { look: Look::Refused(8), homes };
+        return Looked {
+            look: Look::Refused(8),
+            homes,
+        };
     }
     let e = home_words_of(slots, homes.first, homes.second);
     let m = (items.len() / 4) as u32;
     if any_damaged(e, m) {
-        return Looked { look: Look::Refused(4), homes };
+        return Looked {
+            look: Look::Refused(4),
+            homes,
+        };
     }
     let w = hit_word(items, e, homes.tag, animal);
     if w == 0 {
-        return Looked { look: Look::Absent, homes };
+        return Looked {
+            look: Look::Absent,
+            homes,
+        };
     }
-    Looked { look: Look::At(w), homes }
+    Looked {
+        look: Look::At(w),
+        homes,
+    }
 }
 
 // The place of an animal.
 pub fn find(slots: &[u32], counters: &[u32], items: &[u64], animal: u64) -> Finding
-    ensures {
-        λ r. ⌜ said-finding r
-        ≡ lent-call 4 4 sizes (mem (now (slots .entry)) (now (counters .entry)) (now (items .entry))) (find animal) .answer ⌝
-    }
+    ensures { λ r. ⌜ said-finding r
+        ≡ lent-call 4 4 sizes (mem (now (slots .entry)) (now (counters .entry)) (now (items .entry))) (find animal) .answer ⌝ }
 {
     let no = refused_early(slots.len(), counters.len(), items.len(), animal, false);
     if no != 0 {
@@ -404,9 +461,7 @@ fn slot_in(slots: &[u32], b: u32, w: u32) -> Slot
 // The first home slot with a word.
 pub fn slot_of(slots: &[u32], near: u32, far: u32, w: u32) -> Slot
     requires { ⌜ (near * 4 + 3 < length (now slots)) × (far * 4 + 3 < length (now slots)) ⌝ }
-    ensures {
-        λ r. ⌜ slot-found r ≡ first (λ i. eqb (getD (now (slots .entry)) i 0) w) (range (near * 4) 4 ++ range (far * 4) 4) ⌝
-    }
+    ensures { λ r. ⌜ slot-found r ≡ first (λ i. eqb (getD (now (slots .entry)) i 0) w) (range (near * 4) 4 ++ range (far * 4) 4) ⌝ }
 {
     let found = slot_in(slots, near, w);
     match found {

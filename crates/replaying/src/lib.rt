@@ -3,7 +3,6 @@ ghost use mathlib.Core.Path.{_≡_};
 ghost use Prim.Native.Nat.{_+_, _<_, _≤_};
 ghost use lib.ListN.{length};
 ghost use Rattle.replaying.specs.Room.{Room, Moved, Fits, Poked, PieceAt};
-
 use answering::Turn;
 use language::Line;
 use libc::STDOUT_FILENO;
@@ -126,7 +125,14 @@ fn put_records(out: &mut [u8], at: usize, records: &[u8], n: usize) -> usize
 }
 
 // The list into the bytes lent for it, and its records.
-fn list(slots: &[u32], counters: &[u32], items: &[u64], buffer: &mut [u8], out: &mut [u8], at: usize) -> usize
+fn list(
+    slots: &[u32],
+    counters: &[u32],
+    items: &[u64],
+    buffer: &mut [u8],
+    out: &mut [u8],
+    at: usize,
+) -> usize
     requires { ⌜ Room at (now out) ⌝ }
     ensures { λ r. ⌜ Room r (now (out .entry)) ⌝ }
 {
@@ -151,11 +157,26 @@ fn refuse_length(out: &mut [u8], state: State) -> State
 {
     let next = telling::put_refused(out, state.at, 1);
     let at = with_room(out, next);
-    State { slots: state.slots, counters: state.counters, items: state.items, hand: state.hand, at }
+    State {
+        slots: state.slots,
+        counters: state.counters,
+        items: state.items,
+        hand: state.hand,
+        at,
+    }
 }
 
 // Fresh: the runs are in use from then on as long as it says. One beyond what the program holds is refused as a wrong length is.
-fn start(slots: &mut [u32], counters: &mut [u32], items: &mut [u64], out: &mut [u8], state: State, s: usize, v: usize, i: usize) -> State
+fn start(
+    slots: &mut [u32],
+    counters: &mut [u32],
+    items: &mut [u64],
+    out: &mut [u8],
+    state: State,
+    s: usize,
+    v: usize,
+    i: usize,
+) -> State
     requires { ⌜ Fits (now slots) (now counters) (now items) (now out) state ⌝ }
     ensures { λ r. ⌜ Fits (now (slots .entry)) (now (counters .entry)) (now (items .entry)) (now (out .entry)) r ⌝ }
 {
@@ -173,7 +194,13 @@ fn start(slots: &mut [u32], counters: &mut [u32], items: &mut [u64], out: &mut [
         model::Starting::Refused(_) => refuse_length(out, state),
         model::Starting::Started => {
             let at = put_words(out, state.at, b"fresh");
-            State { slots: s, counters: v, items: i, hand: 0, at }
+            State {
+                slots: s,
+                counters: v,
+                items: i,
+                hand: 0,
+                at,
+            }
         }
     }
 }
@@ -223,7 +250,16 @@ fn not_understood(out: &mut [u8], at: usize, number: u64) -> usize
 }
 
 // The list into the first `size` bytes lent for it; the language has no line for more.
-fn list_into(slots: &[u32], counters: &[u32], items: &[u64], records: &mut [u8], out: &mut [u8], at: usize, size: usize, number: u64) -> usize
+fn list_into(
+    slots: &[u32],
+    counters: &[u32],
+    items: &[u64],
+    records: &mut [u8],
+    out: &mut [u8],
+    at: usize,
+    size: usize,
+    number: u64,
+) -> usize
     requires { ⌜ Room at (now out) ⌝ }
     ensures { λ r. ⌜ Room r (now (out .entry)) ⌝ }
 {
@@ -234,80 +270,241 @@ fn list_into(slots: &[u32], counters: &[u32], items: &[u64], records: &mut [u8],
 }
 
 // A line that makes no fresh table: its call on the table there is, its answer, and the hand afterwards.
-fn on_table(line: Line, number: u64, slots: &mut [u32], counters: &mut [u32], items: &mut [u64], records: &mut [u8], out: &mut [u8], at: usize, hand: usize) -> Turn
+fn on_table(
+    line: Line,
+    number: u64,
+    slots: &mut [u32],
+    counters: &mut [u32],
+    items: &mut [u64],
+    records: &mut [u8],
+    out: &mut [u8],
+    at: usize,
+    hand: usize,
+) -> Turn
     requires { ⌜ Room at (now out) ⌝ }
     ensures { λ r. ⌜ Room (r .next) (now (out .entry)) ⌝ }
 {
     match line {
         Line::Blank => Turn { next: at, hand },
-        Line::NotUnderstood => Turn { next: not_understood(out, at, number), hand },
-        Line::Fresh { .. } => Turn { next: not_understood(out, at, number), hand },
-        Line::Read { animal, limit, minute } => {
-            let next = answering::answer_read(slots, counters, items, animal, limit, minute, out, at);
-            Turn { next: with_room(out, next), hand }
+        Line::NotUnderstood => Turn {
+            next: not_understood(out, at, number),
+            hand,
+        },
+        Line::Fresh { .. } => Turn {
+            next: not_understood(out, at, number),
+            hand,
+        },
+        Line::Read {
+            animal,
+            limit,
+            minute,
+        } => {
+            let next = answering::answer_read(
+                slots,
+                counters,
+                items,
+                animal,
+                limit,
+                minute,
+                out,
+                at,
+            );
+            Turn {
+                next: with_room(out, next),
+                hand,
+            }
         }
-        Line::Serve { animal, limit, minute } => {
-            let next = answering::answer_serve(slots, counters, items, animal, limit, minute, out, at);
-            Turn { next: with_room(out, next), hand }
+        Line::Serve {
+            animal,
+            limit,
+            minute,
+        } => {
+            let next = answering::answer_serve(
+                slots,
+                counters,
+                items,
+                animal,
+                limit,
+                minute,
+                out,
+                at,
+            );
+            Turn {
+                next: with_room(out, next),
+                hand,
+            }
         }
-        Line::Set { animal, permission, minute, standing } => {
-            let next = answering::answer_set(slots, counters, items, animal, permission, minute, standing, out, at);
-            Turn { next: with_room(out, next), hand }
+        Line::Set {
+            animal,
+            permission,
+            minute,
+            standing,
+        } => {
+            let next = answering::answer_set(
+                slots,
+                counters,
+                items,
+                animal,
+                permission,
+                minute,
+                standing,
+                out,
+                at,
+            );
+            Turn {
+                next: with_room(out, next),
+                hand,
+            }
         }
-        Line::CutSet { k, animal, permission, minute, standing } => {
-            let next = answering::answer_set_cut(slots, counters, items, animal, permission, minute, standing, k, out, at);
-            Turn { next: with_room(out, next), hand }
+        Line::CutSet {
+            k,
+            animal,
+            permission,
+            minute,
+            standing,
+        } => {
+            let next = answering::answer_set_cut(
+                slots,
+                counters,
+                items,
+                animal,
+                permission,
+                minute,
+                standing,
+                k,
+                out,
+                at,
+            );
+            Turn {
+                next: with_room(out, next),
+                hand,
+            }
         }
         Line::Delete { animal } => {
             let next = answering::answer_delete(slots, counters, items, animal, out, at);
-            Turn { next: with_room(out, next), hand }
+            Turn {
+                next: with_room(out, next),
+                hand,
+            }
         }
         Line::CutDelete { k, animal } => {
             let next = answering::answer_delete_cut(slots, counters, items, animal, k, out, at);
-            Turn { next: with_room(out, next), hand }
+            Turn {
+                next: with_room(out, next),
+                hand,
+            }
         }
         Line::Evict => {
             let turn = answering::answer_evict(slots, counters, items, hand, out, at);
-            Turn { next: with_room(out, turn.next), hand: turn.hand }
+            Turn {
+                next: with_room(out, turn.next),
+                hand: turn.hand,
+            }
         }
         Line::CutEvict { k } => {
             let turn = answering::answer_evict_cut(slots, counters, items, hand, k, out, at);
-            Turn { next: with_room(out, turn.next), hand: turn.hand }
+            Turn {
+                next: with_room(out, turn.next),
+                hand: turn.hand,
+            }
         }
-        Line::Hand { at: new } => Turn { next: put_words(out, at, b"hand"), hand: new as usize },
+        Line::Hand { at: new } => Turn {
+            next: put_words(out, at, b"hand"),
+            hand: new as usize,
+        },
         Line::List { size } => {
-            let next = list_into(slots, counters, items, records, out, at, size as usize, number);
+            let next = list_into(
+                slots,
+                counters,
+                items,
+                records,
+                out,
+                at,
+                size as usize,
+                number,
+            );
             Turn { next, hand }
         }
         Line::PokeSlots { at: i, word } => {
             let poked = poke32(slots, i, word);
-            Turn { next: tell_poked(out, at, poked), hand }
+            Turn {
+                next: tell_poked(out, at, poked),
+                hand,
+            }
         }
         Line::PokeCounters { at: i, word } => {
             let poked = poke32(counters, i, word);
-            Turn { next: tell_poked(out, at, poked), hand }
+            Turn {
+                next: tell_poked(out, at, poked),
+                hand,
+            }
         }
         Line::PokeItems { at: i, word } => {
             let poked = poke64(items, i, word);
-            Turn { next: tell_poked(out, at, poked), hand }
+            Turn {
+                next: tell_poked(out, at, poked),
+                hand,
+            }
         }
-        Line::Dump => Turn { next: dump(slots, counters, items, out, at), hand },
+        Line::Dump => Turn {
+            next: dump(slots, counters, items, out, at),
+            hand,
+        },
     }
 }
 
 // One line, on the runs in use.
-fn step(line: Line, number: u64, slots: &mut [u32], counters: &mut [u32], items: &mut [u64], records: &mut [u8], out: &mut [u8], state: State) -> State
+fn step(
+    line: Line,
+    number: u64,
+    slots: &mut [u32],
+    counters: &mut [u32],
+    items: &mut [u64],
+    records: &mut [u8],
+    out: &mut [u8],
+    state: State,
+) -> State
     requires { ⌜ Fits (now slots) (now counters) (now items) (now out) state ⌝ }
     ensures { λ r. ⌜ Fits (now (slots .entry)) (now (counters .entry)) (now (items .entry)) (now (out .entry)) r ⌝ }
 {
-    let Line::Fresh { slots: a, counters: b, items: c } = line else {
+    let Line::Fresh {
+        slots: a,
+        counters: b,
+        items: c,
+    } = line
+    else {
         let s = state.slots;
         let v = state.counters;
         let i = state.items;
-        let turn = on_table(line, number, &mut slots[..s], &mut counters[..v], &mut items[..i], records, out, state.at, state.hand);
-        return State { slots: s, counters: v, items: i, hand: turn.hand, at: turn.next };
+        let turn = on_table(
+            line,
+            number,
+            &mut slots[..s],
+            &mut counters[..v],
+            &mut items[..i],
+            records,
+            out,
+            state.at,
+            state.hand,
+        );
+        return State {
+            slots: s,
+            counters: v,
+            items: i,
+            hand: turn.hand,
+            at: turn.next,
+        };
     };
-    start(slots, counters, items, out, state, a as usize, b as usize, c as usize)
+    start(
+        slots,
+        counters,
+        items,
+        out,
+        state,
+        a as usize,
+        b as usize,
+        c as usize,
+    )
 }
 
 // Where a line ends, and where the next one starts.
@@ -328,11 +525,24 @@ fn piece_at(text: &[u8], from: usize) -> Piece
 }
 
 // All lines of a text; how many they are, each at least one byte.
-fn replay_lines(text: &[u8], slots: &mut [u32], counters: &mut [u32], items: &mut [u64], records: &mut [u8], out: &mut [u8]) -> u64
+fn replay_lines(
+    text: &[u8],
+    slots: &mut [u32],
+    counters: &mut [u32],
+    items: &mut [u64],
+    records: &mut [u8],
+    out: &mut [u8],
+) -> u64
     requires { ⌜ 96 ≤ length (now out) ⌝ }
     ensures { λ r. ⌜ r ≤ length (now (text .entry)) ⌝ }
 {
-    let mut state = State { slots: 0, counters: 0, items: 0, hand: 0, at: 0 };
+    let mut state = State {
+        slots: 0,
+        counters: 0,
+        items: 0,
+        hand: 0,
+        at: 0,
+    };
     let mut from: usize = 0;
     let mut number: u64 = 0;
     while from < text.len() {
@@ -361,5 +571,12 @@ pub fn replay(text: &[u8]) -> u64
     let mut items = [0u64; 4096];
     let mut records = record_bytes();
     let mut out = io::large_buffer();
-    replay_lines(text, &mut slots, &mut counters, &mut items, &mut records, &mut out)
+    replay_lines(
+        text,
+        &mut slots,
+        &mut counters,
+        &mut items,
+        &mut records,
+        &mut out,
+    )
 }

@@ -271,8 +271,12 @@ few-enter m x v s (some p) =
     all =
         record {
           few = rw (stores-append (move-blocks (Y4 m) (m .slots) (planned (Y4 m) m x)) (enter-block (Y4 m) x v s p (final-slot (Y4 m) m x) ∷ []))
-              (simp length-append (omega (arith, move-stores (Y4 m) (m .slots) (planned (Y4 m) m x), enter-seven (Y4 m) x v s p (final-slot (Y4 m) m x),
-              length-climb (Y4 m .layout) (visit-list (Y4 m .layout) (m .slots) (pair (Y4 m) x) 4) 2 4 (stopped (Y4 m) m x) (free-slot (Y4 m .layout) (m .slots) (stop-bucket (Y4 m .layout) (m .slots) (pair (Y4 m) x) 4)))));
+              (simp length-append (omega (
+                arith,
+                move-stores (Y4 m) (m .slots) (planned (Y4 m) m x),
+                enter-seven (Y4 m) x v s p (final-slot (Y4 m) m x),
+                length-climb (Y4 m .layout) (visit-list (Y4 m .layout) (m .slots) (pair (Y4 m) x) 4) 2 4 (stopped (Y4 m) m x) (free-slot (Y4 m .layout) (m .slots) (stop-bucket (Y4 m .layout) (m .slots) (pair (Y4 m) x) 4)),
+              )));
         }
 
 few-set-at : (m : Mem) (x v s : ℕ) (o : Option ℕ) → Few 23 (set-at (Y4 m) m x v s o)
@@ -282,9 +286,12 @@ few-set-at m x v s (some p) = record { few = omega arith }
 
 set-few : (m : Mem) (x v now : ℕ) (s : Bool) → length (stores (lent-call 4 4 sizes m (set-animal x v now s) .blocks)) ≤ 18446744073709551615
 set-few m x v now s =
-    omega (arith, few-or (right-lengths 4 4 sizes m) (few-or (eqb x 0) (few-refuse {n = 23} 2) (few-or (eqb now standing) (few-refuse 3)
-    (few-or (busy (Y4 m) m x) (few-refuse 8) (few-or (hurt (Y4 m) m x) (few-refuse 4) (few-set-at m x v (stamp-of now s) (held (Y4 m) m x))))))
-    (few-refuse 1) .few)
+    omega (
+      arith,
+      few-or (right-lengths 4 4 sizes m) (few-or (eqb x 0) (few-refuse {n = 23} 2) (few-or (eqb now standing) (few-refuse 3)
+          (few-or (busy (Y4 m) m x) (few-refuse 8) (few-or (hurt (Y4 m) m x) (few-refuse 4) (few-set-at m x v (stamp-of now s) (held (Y4 m) m x))))))
+          (few-refuse 1) .few,
+    )
 
 pub whole-set : {m m′ : Mem} {x v now : ℕ} {s : Bool} {a : Answer} → CutAs m (set-animal x v now s) 18446744073709551615 m′ a
     → WholeAs m (set-animal x v now s) m′ a

@@ -15,7 +15,6 @@ ghost use Rattle.model.specs.Said.{said-setting};
 ghost use Rattle.storing.specs.Made.{Made};
 ghost use Rattle.writing.specs.Wrote.{CutAs, WholeAs};
 ghost use Rattle.setting.specs.Enter.{Movable, MovesIn, plain-moves, Does, entering, entering-new, Homed, Searched};
-
 use hashing::Homes;
 use model::Setting;
 use places::Vacancy;
@@ -35,13 +34,18 @@ fn get32(s: &[u32], i: usize) -> u32
 }
 
 // One move, of the word that stands in the source now, under the counter of that entry.
-fn move_one(slots: &mut [u32], counters: &mut [u32], n: u32, from: usize, to: usize, left: u64) -> u64
+fn move_one(
+    slots: &mut [u32],
+    counters: &mut [u32],
+    n: u32,
+    from: usize,
+    to: usize,
+    left: u64,
+) -> u64
     requires { ⌜ Movable n (length (now counters)) from ⌝ }
-    ensures {
-        λ r. ⌜ ((p : ℕ) (t : List ℕ) → Made (stores-of (move-block (yard 4 4 n (length (now (counters .entry))) p) (now (slots .entry))
+    ensures { λ r. ⌜ ((p : ℕ) (t : List ℕ) → Made (stores-of (move-block (yard 4 4 n (length (now (counters .entry))) p) (now (slots .entry))
         (record { from = from; to = to }))) left (mem (now (slots .entry)) (now (counters .entry)) t)
-        (mem (now (slots .exit)) (now (counters .exit)) t) r) ⌝
-    }
+        (mem (now (slots .exit)) (now (counters .exit)) t) r) ⌝ }
 {
     let w = get32(slots, from);
     let b = (from / 4) as u32;
@@ -51,13 +55,18 @@ fn move_one(slots: &mut [u32], counters: &mut [u32], n: u32, from: usize, to: us
 }
 
 // The first count of four moves, the far end first.
-fn make_moves(slots: &mut [u32], counters: &mut [u32], n: u32, moves: [Move; 4], count: usize, left: u64) -> u64
+fn make_moves(
+    slots: &mut [u32],
+    counters: &mut [u32],
+    n: u32,
+    moves: [Move; 4],
+    count: usize,
+    left: u64,
+) -> u64
     requires { ⌜ MovesIn n (length (now counters)) moves count ⌝ }
-    ensures {
-        λ r. ⌜ ((p : ℕ) (t : List ℕ) → Made (stores (move-blocks (yard 4 4 n (length (now (counters .entry))) p) (now (slots .entry))
+    ensures { λ r. ⌜ ((p : ℕ) (t : List ℕ) → Made (stores (move-blocks (yard 4 4 n (length (now (counters .entry))) p) (now (slots .entry))
         (plain-moves (take count moves)))) left (mem (now (slots .entry)) (now (counters .entry)) t)
-        (mem (now (slots .exit)) (now (counters .exit)) t) r) ⌝
-    }
+        (mem (now (slots .exit)) (now (counters .exit)) t) r) ⌝ }
 {
     let mut l = left;
     let mut j = 0;
@@ -85,11 +94,9 @@ fn enter_found(
     k: u64,
 ) -> Setting
     requires { ⌜ Searched (mem (now slots) (now counters) (now items)) animal homes p found ⌝ }
-    ensures {
-        λ r. ⌜ Does (entering (mem (now (slots .entry)) (now (counters .entry)) (now (items .entry))) animal permission stamp (some p)) k
+    ensures { λ r. ⌜ Does (entering (mem (now (slots .entry)) (now (counters .entry)) (now (items .entry))) animal permission stamp (some p)) k
         (mem (now (slots .entry)) (now (counters .entry)) (now (items .entry)))
-        (mem (now (slots .exit)) (now (counters .exit)) (now (items .exit))) (said-setting r) ⌝
-    }
+        (mem (now (slots .exit)) (now (counters .exit)) (now (items .exit))) (said-setting r) ⌝ }
 {
     let ending = found.ending;
     match ending {
@@ -104,8 +111,23 @@ fn enter_found(
             let word = homes.tag * 65536 + place;
             let at = found.slot;
             let c = homes.counter as usize;
-            storing::enter_entry(slots, counters, items, c, place, at, word, animal, permission, stamp, left);
-            Setting::Stored { visits, moves: count }
+            storing::enter_entry(
+                slots,
+                counters,
+                items,
+                c,
+                place,
+                at,
+                word,
+                animal,
+                permission,
+                stamp,
+                left,
+            );
+            Setting::Stored {
+                visits,
+                moves: count,
+            }
         }
     }
 }
@@ -122,11 +144,9 @@ fn enter_new(
     k: u64,
 ) -> Setting
     requires { ⌜ Homed (mem (now slots) (now counters) (now items)) animal homes ⌝ }
-    ensures {
-        λ r. ⌜ Does (entering-new (mem (now (slots .entry)) (now (counters .entry)) (now (items .entry))) animal permission stamp) k
+    ensures { λ r. ⌜ Does (entering-new (mem (now (slots .entry)) (now (counters .entry)) (now (items .entry))) animal permission stamp) k
         (mem (now (slots .entry)) (now (counters .entry)) (now (items .entry)))
-        (mem (now (slots .exit)) (now (counters .exit)) (now (items .exit))) (said-setting r) ⌝
-    }
+        (mem (now (slots .exit)) (now (counters .exit)) (now (items .exit))) (said-setting r) ⌝ }
 {
     let m = items.len() / 4;
     let vacancy = places::vacant_place(items, m);
@@ -135,7 +155,18 @@ fn enter_new(
     };
     let n = (slots.len() / 4) as u32;
     let found = searching::search(slots, n, m as u32, homes.first, homes.second);
-    enter_found(slots, counters, items, animal, permission, stamp, homes, p, found, k)
+    enter_found(
+        slots,
+        counters,
+        items,
+        animal,
+        permission,
+        stamp,
+        homes,
+        p,
+        found,
+        k,
+    )
 }
 
 // The stamp of a set: the minute of arrival, or the standing mark.
@@ -159,10 +190,8 @@ pub fn set_cut(
     standing: bool,
     k: u64,
 ) -> Setting
-    ensures {
-        λ r. ⌜ CutAs (mem (now (slots .entry)) (now (counters .entry)) (now (items .entry))) (set-animal animal permission minute standing) k
-        (mem (now (slots .exit)) (now (counters .exit)) (now (items .exit))) (said-setting r) ⌝
-    }
+    ensures { λ r. ⌜ CutAs (mem (now (slots .entry)) (now (counters .entry)) (now (items .entry))) (set-animal animal permission minute standing) k
+        (mem (now (slots .exit)) (now (counters .exit)) (now (items .exit))) (said-setting r) ⌝ }
 {
     let late = minute == 18446744073709551615;
     let no = reading::refused_early(slots.len(), counters.len(), items.len(), animal, late);
@@ -177,8 +206,19 @@ pub fn set_cut(
         Look::Refused(n) => Setting::Refused(n),
         Look::Absent => enter_new(slots, counters, items, animal, permission, stamp, homes, k),
         Look::At(w) => {
-            storing::update_entry(counters, items, homes.counter as usize, w % 65536, permission, stamp, k);
-            Setting::Stored { visits: 0, moves: 0 }
+            storing::update_entry(
+                counters,
+                items,
+                homes.counter as usize,
+                w % 65536,
+                permission,
+                stamp,
+                k,
+            );
+            Setting::Stored {
+                visits: 0,
+                moves: 0,
+            }
         }
     }
 }
@@ -192,10 +232,17 @@ pub fn set(
     minute: u64,
     standing: bool,
 ) -> Setting
-    ensures {
-        λ r. ⌜ WholeAs (mem (now (slots .entry)) (now (counters .entry)) (now (items .entry))) (set-animal animal permission minute standing)
-        (mem (now (slots .exit)) (now (counters .exit)) (now (items .exit))) (said-setting r) ⌝
-    }
+    ensures { λ r. ⌜ WholeAs (mem (now (slots .entry)) (now (counters .entry)) (now (items .entry))) (set-animal animal permission minute standing)
+        (mem (now (slots .exit)) (now (counters .exit)) (now (items .exit))) (said-setting r) ⌝ }
 {
-    set_cut(slots, counters, items, animal, permission, minute, standing, 18446744073709551615)
+    set_cut(
+        slots,
+        counters,
+        items,
+        animal,
+        permission,
+        minute,
+        standing,
+        18446744073709551615,
+    )
 }

@@ -50,11 +50,17 @@ pub fn put_item(items: &mut [u64], i: usize, v: u64, left: u64) -> u64
 }
 
 // A move: the destination is written before the source is cleared, so that the entry always stands somewhere.
-pub fn move_entry(slots: &mut [u32], counters: &mut [u32], c: usize, from: usize, to: usize, w: u32, left: u64) -> u64
-    ensures {
-        λ r. ⌜ ((t : List ℕ) → Made (stores-of (move c from to w)) left (mem (now (slots .entry)) (now (counters .entry)) t)
-        (mem (now (slots .exit)) (now (counters .exit)) t) r) ⌝
-    }
+pub fn move_entry(
+    slots: &mut [u32],
+    counters: &mut [u32],
+    c: usize,
+    from: usize,
+    to: usize,
+    w: u32,
+    left: u64,
+) -> u64
+    ensures { λ r. ⌜ ((t : List ℕ) → Made (stores-of (move c from to w)) left (mem (now (slots .entry)) (now (counters .entry)) t)
+        (mem (now (slots .exit)) (now (counters .exit)) t) r) ⌝ }
 {
     let l1 = put_bump(counters, c, left);
     let l2 = put_slot(slots, to, w, l1);
@@ -76,11 +82,9 @@ pub fn enter_entry(
     stamp: u64,
     left: u64,
 ) -> u64
-    ensures {
-        λ r. ⌜ Made (stores-of (enter c p i w animal permission stamp)) left
+    ensures { λ r. ⌜ Made (stores-of (enter c p i w animal permission stamp)) left
         (mem (now (slots .entry)) (now (counters .entry)) (now (items .entry)))
-        (mem (now (slots .exit)) (now (counters .exit)) (now (items .exit))) r ⌝
-    }
+        (mem (now (slots .exit)) (now (counters .exit)) (now (items .exit))) r ⌝ }
 {
     let at = 4 * (p as usize);
     let l1 = put_bump(counters, c, left);
@@ -93,11 +97,17 @@ pub fn enter_entry(
 }
 
 // An update of a held animal: permission, stamp and recent.
-pub fn update_entry(counters: &mut [u32], items: &mut [u64], c: usize, p: u32, permission: u32, stamp: u64, left: u64) -> u64
-    ensures {
-        λ r. ⌜ ((s : List ℕ) → Made (stores-of (update c p permission stamp)) left (mem s (now (counters .entry)) (now (items .entry)))
-        (mem s (now (counters .exit)) (now (items .exit))) r) ⌝
-    }
+pub fn update_entry(
+    counters: &mut [u32],
+    items: &mut [u64],
+    c: usize,
+    p: u32,
+    permission: u32,
+    stamp: u64,
+    left: u64,
+) -> u64
+    ensures { λ r. ⌜ ((s : List ℕ) → Made (stores-of (update c p permission stamp)) left (mem s (now (counters .entry)) (now (items .entry)))
+        (mem s (now (counters .exit)) (now (items .exit))) r) ⌝ }
 {
     let at = 4 * (p as usize);
     let l1 = put_bump(counters, c, left);
@@ -117,10 +127,8 @@ pub fn remove_entry(
     p: u32,
     left: u64,
 ) -> u64
-    ensures {
-        λ r. ⌜ Made (stores-of (remove c i p)) left (mem (now (slots .entry)) (now (counters .entry)) (now (items .entry)))
-        (mem (now (slots .exit)) (now (counters .exit)) (now (items .exit))) r ⌝
-    }
+    ensures { λ r. ⌜ Made (stores-of (remove c i p)) left (mem (now (slots .entry)) (now (counters .entry)) (now (items .entry)))
+        (mem (now (slots .exit)) (now (counters .exit)) (now (items .exit))) r ⌝ }
 {
     let at = 4 * (p as usize);
     let l1 = put_bump(counters, c, left);

@@ -168,8 +168,11 @@ few-delete-at m x (some i) = record { few = omega arith }
 
 delete-few : (m : Mem) (x : ℕ) → length (stores (lent-call 4 4 sizes m (delete x) .blocks)) ≤ 18446744073709551615
 delete-few m x =
-    omega (arith, few-or (right-lengths 4 4 sizes m) (few-or (eqb x 0) (few-refuse {n = 7} 2) (few-or (busy (Y4 m) m x) (few-refuse 8)
-    (few-or (hurt (Y4 m) m x) (few-refuse 4) (few-delete-at m x (hit (Y4 m) m x))))) (few-refuse 1) .few)
+    omega (
+      arith,
+      few-or (right-lengths 4 4 sizes m) (few-or (eqb x 0) (few-refuse {n = 7} 2) (few-or (busy (Y4 m) m x) (few-refuse 8)
+          (few-or (hurt (Y4 m) m x) (few-refuse 4) (few-delete-at m x (hit (Y4 m) m x))))) (few-refuse 1) .few,
+    )
 
 pub whole-delete : {m m′ : Mem} {x : ℕ} {a : Answer} → CutAs m (delete x) 18446744073709551615 m′ a → WholeAs m (delete x) m′ a
 whole-delete {m} {x = x} d = whole-cut (delete-few m x) d

@@ -7,7 +7,6 @@ ghost use Rattle.model.specs.Memory.{mem};
 ghost use Rattle.model.specs.Answers.{delete};
 ghost use Rattle.model.specs.Said.{said-starting, said-deleting};
 ghost use Rattle.writing.specs.Wrote.{FreshAs, CutAs, WholeAs, Hit};
-
 use hashing::Homes;
 use model::Deleting;
 use model::Starting;
@@ -37,10 +36,8 @@ fn zero64(run: &mut [u64])
 
 // Makes a table of three lent runs: zero everywhere.
 pub fn fresh(slots: &mut [u32], counters: &mut [u32], items: &mut [u64]) -> Starting
-    ensures {
-        λ r. ⌜ FreshAs (mem (now (slots .entry)) (now (counters .entry)) (now (items .entry)))
-        (mem (now (slots .exit)) (now (counters .exit)) (now (items .exit))) (said-starting r) ⌝
-    }
+    ensures { λ r. ⌜ FreshAs (mem (now (slots .entry)) (now (counters .entry)) (now (items .entry)))
+        (mem (now (slots .exit)) (now (counters .exit)) (now (items .exit))) (said-starting r) ⌝ }
 {
     let good = hashing::lengths_are_good(slots.len(), counters.len(), items.len());
     if !good {
@@ -53,27 +50,45 @@ pub fn fresh(slots: &mut [u32], counters: &mut [u32], items: &mut [u64]) -> Star
 }
 
 // The entry of a hit goes. Requires the word to be the hit's: delete has looked it up.
-fn delete_hit(slots: &mut [u32], counters: &mut [u32], items: &mut [u64], animal: u64, homes: Homes, w: u32, k: u64) -> Deleting
+fn delete_hit(
+    slots: &mut [u32],
+    counters: &mut [u32],
+    items: &mut [u64],
+    animal: u64,
+    homes: Homes,
+    w: u32,
+    k: u64,
+) -> Deleting
     requires { ⌜ Hit (mem (now slots) (now counters) (now items)) animal homes w ⌝ }
-    ensures {
-        λ r. ⌜ CutAs (mem (now (slots .entry)) (now (counters .entry)) (now (items .entry))) (delete animal) k
-        (mem (now (slots .exit)) (now (counters .exit)) (now (items .exit))) (said-deleting r) ⌝
-    }
+    ensures { λ r. ⌜ CutAs (mem (now (slots .entry)) (now (counters .entry)) (now (items .entry))) (delete animal) k
+        (mem (now (slots .exit)) (now (counters .exit)) (now (items .exit))) (said-deleting r) ⌝ }
 {
     let slot = reading::slot_of(slots, homes.first, homes.second, w);
     let Slot::At(i) = slot else {
         return Deleting::Refused(7);
     };
-    storing::remove_entry(slots, counters, items, homes.counter as usize, i, w % 65536, k);
+    storing::remove_entry(
+        slots,
+        counters,
+        items,
+        homes.counter as usize,
+        i,
+        w % 65536,
+        k,
+    );
     Deleting::Deleted
 }
 
 // Delete, of which only the first k stores are made.
-pub fn delete_cut(slots: &mut [u32], counters: &mut [u32], items: &mut [u64], animal: u64, k: u64) -> Deleting
-    ensures {
-        λ r. ⌜ CutAs (mem (now (slots .entry)) (now (counters .entry)) (now (items .entry))) (delete animal) k
-        (mem (now (slots .exit)) (now (counters .exit)) (now (items .exit))) (said-deleting r) ⌝
-    }
+pub fn delete_cut(
+    slots: &mut [u32],
+    counters: &mut [u32],
+    items: &mut [u64],
+    animal: u64,
+    k: u64,
+) -> Deleting
+    ensures { λ r. ⌜ CutAs (mem (now (slots .entry)) (now (counters .entry)) (now (items .entry))) (delete animal) k
+        (mem (now (slots .exit)) (now (counters .exit)) (now (items .exit))) (said-deleting r) ⌝ }
 {
     let no = reading::refused_early(slots.len(), counters.len(), items.len(), animal, false);
     if no != 0 {
@@ -90,10 +105,8 @@ pub fn delete_cut(slots: &mut [u32], counters: &mut [u32], items: &mut [u64], an
 }
 
 pub fn delete(slots: &mut [u32], counters: &mut [u32], items: &mut [u64], animal: u64) -> Deleting
-    ensures {
-        λ r. ⌜ WholeAs (mem (now (slots .entry)) (now (counters .entry)) (now (items .entry))) (delete animal)
-        (mem (now (slots .exit)) (now (counters .exit)) (now (items .exit))) (said-deleting r) ⌝
-    }
+    ensures { λ r. ⌜ WholeAs (mem (now (slots .entry)) (now (counters .entry)) (now (items .entry))) (delete animal)
+        (mem (now (slots .exit)) (now (counters .exit)) (now (items .exit))) (said-deleting r) ⌝ }
 {
     delete_cut(slots, counters, items, animal, 18446744073709551615)
 }

@@ -51,11 +51,14 @@ loop-less c = search needs
 
 loop-again : tie.Need-loop-again Inv-loop μ-loop
 loop-again c = let s = c .before .before .before .before .before .before .before .before .before .before .before .before in
-    let at = c .before .before .before .before .before .before .before .before .before .loop in
-    (omega arith, search needs, search needs,
-    λ p t m′ l′ d. at .inv .3 p t m′ l′
-    (moves-step _ (s .args .n) _ (s .args .t4) (s .args .count) (at .j) (c .before .before .before .before .before .before .before .before .loop-test .taken) (omega (arith, s .good, s .pre .four))
-    (at .slots) (at .counters) _ _ (at .l) _ (at .inv .1) (c .before .before .before .before .move-one .ensures) p t m′ l′ d))
+    let at = c .before .before .before .before .before .before .before .before .before .loop in (
+      omega arith,
+      search needs,
+      search needs,
+      λ p t m′ l′ d. at .inv .3 p t m′ l′
+          (moves-step _ (s .args .n) _ (s .args .t4) (s .args .count) (at .j) (c .before .before .before .before .before .before .before .before .loop-test .taken) (omega (arith, s .good, s .pre .four))
+          (at .slots) (at .counters) _ _ (at .l) _ (at .inv .1) (c .before .before .before .before .move-one .ensures) p t m′ l′ d),
+    )
 
 same-length : tie.Need-same-length Inv-loop μ-loop
 same-length c = c .before .loop .inv .2
@@ -66,10 +69,10 @@ same-length-2 c = c .before .loop .inv .1
 returns : tie.Need-returns Inv-loop μ-loop
 returns c =
     λ p t.
-        let s = c .before .before .before .before in
-        let at = c .before .loop in
-        at .inv .3 p t _ _
-        (moves-done (yard 4 4 (s .args .n) (length (s .args .counters .now)) p) (at .slots) (s .args .t4) (s .args .count) (at .j) (search needs))
+    let s = c .before .before .before .before in
+    let at = c .before .loop in
+    at .inv .3 p t _ _
+    (moves-done (yard 4 4 (s .args .n) (length (s .args .counters .now)) p) (at .slots) (s .args .t4) (s .args .count) (at .j) (search needs))
 
 pub make-moves-spec : {M : Type 1} → statement M
 make-moves-spec =
