@@ -1,5 +1,7 @@
 // Document 01's examples that no statement proves, and the published FNV-1a vectors: each on a line of its own.
 ghost use mathlib.Core.Path.{_≡_};
+ghost use Prim.Native.Nat.{_≤_};
+ghost use lib.ListN.{length};
 ghost use Rattle.model.specs.Hash.{fnv};
 use libc::STDOUT_FILENO;
 use model::Evicting;
@@ -27,29 +29,36 @@ fn say(words: &[u8]) {
     io::write_all(STDOUT_FILENO, words);
 }
 
+// The first n bytes of a line.
+fn say_first(line: &[u8], n: usize)
+    requires { ⌜ n ≤ length (now line) ⌝ }
+{
+    say(&line[..n]);
+}
+
 fn say_starting(said: Starting) {
     let mut line = [0u8; 96];
     let n = telling::put_starting(&mut line, 0, said);
-    say(&line[..n]);
+    say_first(&line, n);
 }
 
 fn say_setting(said: Setting) {
     let mut line = [0u8; 96];
     let n = telling::put_setting(&mut line, 0, said);
-    say(&line[..n]);
+    say_first(&line, n);
 }
 
 fn say_reading(said: Reading) {
     let mut line = [0u8; 96];
     let n = telling::put_reading(&mut line, 0, said);
-    say(&line[..n]);
+    say_first(&line, n);
 }
 
 // The victim, the places looked at and the hand.
 fn say_evicting(said: Evicting, hand: u64) {
     let mut line = [0u8; 96];
     let n = telling::put_evicting(&mut line, 0, said, hand);
-    say(&line[..n]);
+    say_first(&line, n);
 }
 
 // The two hexadecimal digits of a byte.
@@ -57,6 +66,15 @@ fn say_byte(b: u8) {
     let mut two = [0u8; 2];
     language::put_hex_byte(&mut two, 0, b);
     say(&two);
+}
+
+// Two digits for each byte.
+fn say_bytes(bytes: &[u8]) {
+    let mut i: usize = 0;
+    while i < bytes.len() {
+        say_byte(bytes[i]);
+        i += 1;
+    }
 }
 
 // FNV-1a over some bytes, by the step that the hash of an animal is made of.
@@ -107,9 +125,7 @@ fn one_record() {
     setting::set(&mut slots, &mut counters, &mut items, 1, 5, 2, false);
     listing::list(&slots, &counters, &items, &mut record);
     say(b"list of animal 1, permission 5, stamp 2: ");
-    for i in 0..20 {
-        say_byte(record[i]);
-    }
+    say_bytes(&record);
     say(b"\n");
 }
 
@@ -137,7 +153,8 @@ fn largest() {
     let hand = Hand { at: 1 };
     let turned = evicting::evict(&mut slots, &mut counters, &mut items, hand);
     let back = turned.hand;
-    say_evicting(turned.answer, back.at as u64);
+    let said = turned.answer;
+    say_evicting(said, back.at as u64);
     say(b"4096 places, read 1: ");
     say_reading(reading::read(&slots, &counters, &items, 1, 720, 2));
 }
