@@ -1,0 +1,345 @@
+/* anchor.c: document 01's rules in plain C. See anchor.h. */
+#include "anchor.h"
+
+#include <string.h>
+
+#define STANDING UINT64_MAX
+#define VISITS 682  /* 2 + 8 + 32 + 128 + 512 */
+#define PARENTS 170 /* the visits of levels 0 to 3, whose slots lead on */
+#define INLINE static inline __attribute__((always_inline))
+
+/* Where an animal belongs. */
+typedef struct {
+    uint32_t tag, first, other, counter;
+} Homes;
+
+/* The stores that a cut call may still make. A whole call does not count them. */
+typedef struct {
+    int cut;
+    uint64_t left;
+} Budget;
+
+INLINE void store32(Budget *budget, uint32_t *word, uint32_t value) {
+    if (budget->cut) {
+        if (budget->left == 0) return;
+        budget->left--;
+    }
+    *word = value;
+}
+
+INLINE void store64(Budget *budget, uint64_t *word, uint64_t value) {
+    if (budget->cut) {
+        if (budget->left == 0) return;
+        budget->left--;
+    }
+    *word = value;
+}
+
+INLINE int good_shape(size_t sl, size_t cl, size_t il) {
+    return sl >= 8 && sl <= 8192 && (sl & (sl - 1)) == 0 && cl >= 1 && cl <= 1024 && il >= 4 && il <= 16384 && il % 4 == 0;
+}
+
+INLINE uint32_t fnv1a(uint64_t animal) {
+    uint32_t h = 2166136261u;
+    for (int i = 0; i < 8; i++) {
+        h = (h ^ (uint32_t)(animal & 255)) * 16777619u;
+        animal >>= 8;
+    }
+    return h;
+}
+
+/* N is a power of two, so that "mod N" keeps the low bits; an even spread plus 1 is the spread with its low bit set. */
+INLINE uint32_t other_bucket(uint32_t bucket, uint32_t tag, uint32_t n) {
+    return bucket ^ (((tag * 1540483477u) & (n - 1)) | 1u);
+}
+
+INLINE uint32_t counter_of(uint32_t a, uint32_t b, size_t cl) {
+    return (a < b ? a : b) % (uint32_t)cl;
+}
+
+INLINE Homes homes_of(uint64_t animal, uint32_t n, size_t cl) {
+    Homes home;
+    uint32_t h = fnv1a(animal);
+    home.tag = h >> 24;
+    home.tag += home.tag == 0;
+    home.first = h & (n - 1);
+    home.other = other_bucket(home.first, home.tag, n);
+    home.counter = counter_of(home.first, home.other, cl);
+    return home;
+}
+
+/* 1 for a damaged word, without a branch. */
+INLINE uint32_t damaged(uint32_t word, uint32_t m) {
+    uint32_t tag = word >> 16;
+    return (uint32_t)(word != 0) & ((uint32_t)(tag - 1u > 254u) | (uint32_t)((word & 65535u) >= m));
+}
+
+INLINE uint32_t damaged_bucket(const uint32_t *four, uint32_t m) {
+    return damaged(four[0], m) | damaged(four[1], m) | damaged(four[2], m) | damaged(four[3], m);
+}
+
+INLINE int damaged_homes(const uint32_t *slots, Homes home, uint32_t m) {
+    return (damaged_bucket(slots + 4 * home.first, m) | damaged_bucket(slots + 4 * home.other, m)) != 0;
+}
+
+/* The slot of the hit, or -1. The home slots are not damaged. The tags are compared without a branch; only the slots with
+   the animal's tag are followed to their places. */
+INLINE int hit_of(const uint32_t *slots, const uint64_t *items, Homes home, uint64_t animal) {
+    const uint32_t *a = slots + 4 * home.first, *b = slots + 4 * home.other;
+    uint32_t same = 0;
+    for (int i = 0; i < 4; i++) same |= (uint32_t)(a[i] >> 16 == home.tag) << i;
+    for (int i = 0; i < 4; i++) same |= (uint32_t)(b[i] >> 16 == home.tag) << (4 + i);
+    while (same != 0) {
+        uint32_t i = (uint32_t)__builtin_ctz(same);
+        uint32_t slot = i < 4 ? 4 * home.first + i : 4 * home.other + (i - 4);
+        if (items[4 * (slots[slot] & 65535u)] == animal) return (int)slot;
+        same &= same - 1;
+    }
+    return -1;
+}
+
+uint32_t anchor_fresh(ANCHOR_TABLE) {
+    if (!good_shape(sl, cl, il)) return 1;
+    memset(slots, 0, sl * sizeof *slots);
+    memset(counters, 0, cl * sizeof *counters);
+    memset(items, 0, il * sizeof *items);
+    return 0;
+}
+
+/* Read; *place is the place of a fresh answer. */
+INLINE BoughladderReading reading(ANCHOR_LENT, uint64_t animal, uint64_t limit, uint64_t now, uint32_t *place) {
+    BoughladderReading r = {0, 0, 0, 0};
+    if (!good_shape(sl, cl, il)) { r.refusal = 1; return r; }
+    if (animal == 0) { r.refusal = 2; return r; }
+    if (limit > 10080 || now == STANDING) { r.refusal = 3; return r; }
+    Homes home = homes_of(animal, (uint32_t)(sl / 4), cl);
+    if (counters[home.counter] & 1) { r.refusal = 8; return r; }
+    if (damaged_homes(slots, home, (uint32_t)(il / 4))) { r.refusal = 4; return r; }
+    int slot = hit_of(slots, items, home, animal);
+    if (slot < 0) { r.kind = BOUGHLADDER_ABSENT; return r; }
+    *place = slots[slot] & 65535u;
+    const uint64_t *item = items + 4 * *place;
+    uint64_t stamp = item[2];
+    if (stamp == STANDING) {
+        r.kind = BOUGHLADDER_FRESH;
+        r.permission = (uint32_t)item[1];
+        return r;
+    }
+    if (stamp > now) { r.kind = BOUGHLADDER_AHEAD; return r; }
+    r.age = now - stamp;
+    if (r.age > limit) { r.kind = BOUGHLADDER_OLD; return r; }
+    r.kind = BOUGHLADDER_FRESH;
+    r.permission = (uint32_t)item[1];
+    return r;
+}
+
+BoughladderReading anchor_read(ANCHOR_LENT, uint64_t animal, uint64_t limit, uint64_t now) {
+    uint32_t place = 0;
+    return reading(slots, sl, counters, cl, items, il, animal, limit, now, &place);
+}
+
+BoughladderReading anchor_serve(const uint32_t *slots, size_t sl, const uint32_t *counters, size_t cl, uint64_t *items,
+                                size_t il, uint64_t animal, uint64_t limit, uint64_t now) {
+    uint32_t place = 0;
+    BoughladderReading r = reading(slots, sl, counters, cl, items, il, animal, limit, now, &place);
+    if (r.refusal == 0 && r.kind == BOUGHLADDER_FRESH) items[4 * place + 3] = 1;
+    return r;
+}
+
+BoughladderFinding anchor_find(ANCHOR_LENT, uint64_t animal) {
+    BoughladderFinding f = {0, 0, 0};
+    if (!good_shape(sl, cl, il)) { f.refusal = 1; return f; }
+    if (animal == 0) { f.refusal = 2; return f; }
+    Homes home = homes_of(animal, (uint32_t)(sl / 4), cl);
+    if (counters[home.counter] & 1) { f.refusal = 8; return f; }
+    if (damaged_homes(slots, home, (uint32_t)(il / 4))) { f.refusal = 4; return f; }
+    int slot = hit_of(slots, items, home, animal);
+    if (slot < 0) return f;
+    f.kind = BOUGHLADDER_AT_PLACE;
+    f.place = slots[slot] & 65535u;
+    return f;
+}
+
+INLINE BoughladderSetting setting(ANCHOR_TABLE, uint64_t animal, uint32_t permission, uint64_t now, uint32_t standing,
+                                  Budget budget) {
+    BoughladderSetting s = {0, 0, 0};
+    if (!good_shape(sl, cl, il)) { s.refusal = 1; return s; }
+    if (animal == 0) { s.refusal = 2; return s; }
+    if (now == STANDING) { s.refusal = 3; return s; }
+    uint32_t n = (uint32_t)(sl / 4), m = (uint32_t)(il / 4);
+    Homes home = homes_of(animal, n, cl);
+    uint32_t *counter = counters + home.counter;
+    if (*counter & 1) { s.refusal = 8; return s; }
+    if (damaged_homes(slots, home, m)) { s.refusal = 4; return s; }
+    uint64_t stamp = standing ? STANDING : now;
+    int hit = hit_of(slots, items, home, animal);
+    if (hit >= 0) {
+        uint64_t *item = items + 4 * (slots[hit] & 65535u);
+        store32(&budget, counter, *counter + 1);
+        store64(&budget, item + 1, permission);
+        store64(&budget, item + 2, stamp);
+        store64(&budget, item + 3, 1);
+        store32(&budget, counter, *counter + 1);
+        return s;
+    }
+    uint32_t place = 0;
+    while (place < m && items[4 * place] != 0) place++;
+    if (place == m) { s.refusal = 5; return s; }
+
+    uint16_t queue[VISITS]; /* the buckets of the visit list; visit v's slots lead to visits 2 + 4v to 5 + 4v */
+    uint32_t v, free_slot = 0;
+    queue[0] = (uint16_t)home.first;
+    queue[1] = (uint16_t)home.other;
+    for (v = 0; v < VISITS; v++) {
+        uint32_t bucket = queue[v];
+        const uint32_t *four = slots + 4 * bucket;
+        if (damaged_bucket(four, m)) { s.refusal = 4; return s; }
+        if (four[0] == 0 || four[1] == 0 || four[2] == 0 || four[3] == 0) {
+            free_slot = 4 * bucket;
+            while (slots[free_slot] != 0) free_slot++;
+            break;
+        }
+        if (v < PARENTS)
+            for (uint32_t i = 0; i < 4; i++) queue[2 + 4 * v + i] = (uint16_t)other_bucket(bucket, four[i] >> 16, n);
+    }
+    if (v == VISITS) { s.refusal = 6; return s; }
+    s.visits = v + 1;
+    while (v >= 2) { /* from the far end back */
+        uint32_t parent = (v - 2) / 4;
+        uint32_t source = 4u * queue[parent] + (v - 2) % 4;
+        uint32_t word = slots[source];
+        uint32_t *c = counters + counter_of(queue[parent], queue[v], cl);
+        store32(&budget, c, *c + 1);
+        store32(&budget, slots + free_slot, word);
+        store32(&budget, slots + source, 0);
+        store32(&budget, c, *c + 1);
+        free_slot = source;
+        v = parent;
+        s.moves++;
+    }
+    uint64_t *item = items + 4 * place;
+    store32(&budget, counter, *counter + 1);
+    store64(&budget, item + 0, animal);
+    store64(&budget, item + 1, permission);
+    store64(&budget, item + 2, stamp);
+    store64(&budget, item + 3, 1);
+    store32(&budget, slots + free_slot, home.tag * 65536u + place);
+    store32(&budget, counter, *counter + 1);
+    return s;
+}
+
+BoughladderSetting anchor_set(ANCHOR_TABLE, uint64_t animal, uint32_t permission, uint64_t now, uint32_t standing) {
+    Budget whole = {0, 0};
+    return setting(slots, sl, counters, cl, items, il, animal, permission, now, standing, whole);
+}
+
+BoughladderSetting anchor_set_cut(ANCHOR_TABLE, uint64_t animal, uint32_t permission, uint64_t now, uint32_t standing,
+                                  uint64_t k) {
+    Budget budget = {1, k};
+    return setting(slots, sl, counters, cl, items, il, animal, permission, now, standing, budget);
+}
+
+INLINE void take_away(Budget *budget, uint32_t *counter, uint32_t *slot, uint64_t *item) {
+    store32(budget, counter, *counter + 1);
+    store32(budget, slot, 0);
+    for (int i = 0; i < 4; i++) store64(budget, item + i, 0);
+    store32(budget, counter, *counter + 1);
+}
+
+INLINE uint32_t deleting(ANCHOR_TABLE, uint64_t animal, Budget budget) {
+    if (!good_shape(sl, cl, il)) return 1;
+    if (animal == 0) return 2;
+    Homes home = homes_of(animal, (uint32_t)(sl / 4), cl);
+    if (counters[home.counter] & 1) return 8;
+    if (damaged_homes(slots, home, (uint32_t)(il / 4))) return 4;
+    int slot = hit_of(slots, items, home, animal);
+    if (slot < 0) return 7;
+    take_away(&budget, counters + home.counter, slots + slot, items + 4 * (slots[slot] & 65535u));
+    return 0;
+}
+
+uint32_t anchor_delete(ANCHOR_TABLE, uint64_t animal) {
+    Budget whole = {0, 0};
+    return deleting(slots, sl, counters, cl, items, il, animal, whole);
+}
+
+uint32_t anchor_delete_cut(ANCHOR_TABLE, uint64_t animal, uint64_t k) {
+    Budget budget = {1, k};
+    return deleting(slots, sl, counters, cl, items, il, animal, budget);
+}
+
+INLINE BoughladderEvicting evicting(ANCHOR_TABLE, size_t hand, Budget budget) {
+    BoughladderEvicting e = {0, 0, 0, hand};
+    size_t m = il / 4;
+    if (!good_shape(sl, cl, il) || hand >= m) { e.refusal = 1; return e; }
+    /* The walk, without stores: in the second turn every live place has been passed once, so its recent word is 0. */
+    size_t looked = 0, place = hand;
+    int live = 0, found = 0;
+    while (looked < 2 * m) {
+        looked++;
+        if (items[4 * place] != 0) {
+            live = 1;
+            if (looked > m || items[4 * place + 3] == 0) { found = 1; break; }
+        } else if (looked == m && !live) {
+            break;
+        }
+        if (++place == m) place = 0;
+    }
+    if (!live) { e.refusal = 7; return e; }
+    if (!found) { e.refusal = 10; return e; }
+    uint64_t victim = items[4 * place];
+    Homes home = homes_of(victim, (uint32_t)(sl / 4), cl);
+    if (counters[home.counter] & 1) { e.refusal = 8; return e; }
+    if (damaged_homes(slots, home, (uint32_t)m)) { e.refusal = 4; return e; }
+    uint32_t word = home.tag * 65536u + (uint32_t)place;
+    uint32_t *slot = NULL;
+    for (int i = 3; i >= 0; i--)
+        if (slots[4 * home.other + (uint32_t)i] == word) slot = slots + 4 * home.other + i;
+    for (int i = 3; i >= 0; i--)
+        if (slots[4 * home.first + (uint32_t)i] == word) slot = slots + 4 * home.first + i;
+    if (slot == NULL) { e.refusal = 4; return e; }
+    size_t p = hand;
+    for (size_t i = 1; i < looked && i <= m; i++) {
+        if (items[4 * p] != 0 && items[4 * p + 3] != 0) store64(&budget, items + 4 * p + 3, 0);
+        if (++p == m) p = 0;
+    }
+    take_away(&budget, counters + home.counter, slot, items + 4 * place);
+    e.victim = victim;
+    e.looked = looked;
+    e.hand = place + 1 == m ? 0 : place + 1;
+    return e;
+}
+
+BoughladderEvicting anchor_evict(ANCHOR_TABLE, size_t hand) {
+    Budget whole = {0, 0};
+    return evicting(slots, sl, counters, cl, items, il, hand, whole);
+}
+
+BoughladderEvicting anchor_evict_cut(ANCHOR_TABLE, size_t hand, uint64_t k) {
+    Budget budget = {1, k};
+    return evicting(slots, sl, counters, cl, items, il, hand, budget);
+}
+
+/* Low byte first is how x86-64 keeps a number. */
+INLINE uint8_t *low_bytes(uint8_t *out, uint64_t value, size_t bytes) {
+    memcpy(out, &value, bytes);
+    return out + bytes;
+}
+
+BoughladderListing anchor_list(ANCHOR_LENT, uint8_t *buffer, size_t buffer_length) {
+    (void)slots;
+    (void)counters;
+    BoughladderListing l = {0, 0};
+    if (!good_shape(sl, cl, il)) { l.refusal = 1; return l; }
+    size_t live = 0;
+    for (size_t i = 0; i < il; i += 4) live += items[i] != 0;
+    if (buffer_length < 20 * live) { l.refusal = 9; return l; }
+    for (size_t i = 0; i < il; i += 4)
+        if (items[i] != 0) {
+            buffer = low_bytes(buffer, items[i], 8);
+            buffer = low_bytes(buffer, items[i + 1], 4);
+            buffer = low_bytes(buffer, items[i + 2], 8);
+        }
+    l.count = live;
+    return l;
+}

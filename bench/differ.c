@@ -1,0 +1,361 @@
+/*
+ * differ.c: the same random calls on the proved table and on the anchor, with equal memory.
+ * After EVERY call, in every shape, all fields of the reply and all words of the three runs are compared (and, after a
+ * list, all bytes of the buffer). Use: differ [seed]. It ends with 1 at the first difference.
+ *
+ * An episode is one shape, one herd and one kind of memory:
+ *     clean    fresh, then whole calls; the herd grows and shrinks between empty and full
+ *     cut      as clean, and some calls are cut after a random number k of stores
+ *     poked    as cut, and now and then one random word is overwritten by a random one
+ *     garbage  all three runs hold random words from the start
+ */
+#include "anchor.h"
+
+#include <inttypes.h>
+#include <stdio.h>
+#include <stdlib.h>
+#include <string.h>
+
+#define GUARD 8 /* 64-bit words before, between and behind the runs, which nobody may change */
+#define BLOCK (4 * GUARD + 4096 + 512 + 16384)
+#define BUFFER (20 * 4096 + 64)
+#define POOL 9000
+
+enum { CLEAN, CUT, POKED, GARBAGE, KINDS };
+enum { FRESH, READ, SERVE, FIND, SET, SETCUT, DELETE, DELETECUT, EVICT, EVICTCUT, LIST, CALLS };
+static const char *const call_names[CALLS] = {"fresh", "read", "serve", "find", "set", "set_cut", "delete", "delete_cut",
+                                              "evict", "evict_cut", "list"};
+static const char *const kind_names[KINDS] = {"clean", "cut", "poked", "garbage"};
+
+/* One table: its block of memory, and where the runs lie in it. */
+typedef struct {
+    uint64_t block[BLOCK];
+    uint32_t *slots, *counters;
+    uint64_t *items;
+    uint8_t buffer[BUFFER];
+} Table;
+
+/* A reply of any call. */
+typedef struct {
+    uint64_t refusal, kind, permission, age, place, visits, moves, victim, looked, hand, count;
+} Reply;
+
+/* The arguments of any call. */
+typedef struct {
+    int call;
+    size_t sl, cl, il, hand, buffer_length;
+    uint64_t animal, limit, now, k;
+    uint32_t permission, standing;
+} Call;
+
+static Table ours, theirs;
+static uint64_t pool[POOL];
+static size_t n, v, m, pool_size, used; /* used: 64-bit words of the block in use */
+static uint64_t state, seed = 1;
+static uint64_t calls, words, by_call[CALLS], by_refusal[11], by_moves[5], by_load[11], by_kind[KINDS], by_answer[4];
+static uint64_t most_visits, large_calls, stopped_cuts, bytes;
+
+static uint64_t any(void) { /* splitmix64 */
+    uint64_t z = (state += UINT64_C(0x9e3779b97f4a7c15));
+    z = (z ^ (z >> 30)) * UINT64_C(0xbf58476d1ce4e5b9);
+    z = (z ^ (z >> 27)) * UINT64_C(0x94d049bb133111eb);
+    return z ^ (z >> 31);
+}
+
+static uint64_t below(uint64_t bound) { return any() % bound; }
+static int one_in(uint64_t count) { return below(count) == 0; }
+
+static void lay_out(Table *t) {
+    uint64_t *p = t->block + GUARD;
+    t->slots = (uint32_t *)p;
+    p += 4 * n / 2 + GUARD;
+    t->counters = (uint32_t *)p;
+    p += (v + 1) / 2 + GUARD;
+    t->items = p;
+    p += 4 * m + GUARD;
+    used = (size_t)(p - t->block);
+}
+
+static uint64_t an_animal(void) {
+    if (one_in(300)) return 0;
+    if (one_in(50)) return any();
+    return pool[below(pool_size)];
+}
+
+static uint32_t a_slot_word(void) {
+    switch (below(16)) {
+    case 0: return (uint32_t)any();
+    case 1: return (uint32_t)below(65536);                                       /* tag 0 */
+    case 2: return (uint32_t)((256 + below(3)) << 16 | below(m));                /* tag above 255 */
+    case 3: return (uint32_t)((1 + below(255)) << 16 | (m - 1 + below(3)));      /* place about M */
+    case 4: case 5: return 0;
+    default: return (uint32_t)((1 + below(255)) << 16 | below(m));
+    }
+}
+
+static uint64_t an_item_word(size_t i) {
+    switch (i % 4) {
+    case 0: return one_in(4) ? 0 : pool[below(pool_size)];
+    case 1: return one_in(3) ? any() : below(UINT64_C(1) << 32);
+    case 2: return one_in(8) ? UINT64_MAX - below(3) : one_in(8) ? any() : 20000 + below(14000);
+    default: return one_in(3) ? any() : below(2);
+    }
+}
+
+/* The hash of document 01, to aim garbage at an animal's home slots. */
+static uint32_t hash(uint64_t animal) {
+    uint32_t h = 2166136261u;
+    for (int i = 0; i < 8; i++) h = (h ^ (uint32_t)(animal >> (8 * i) & 255)) * 16777619u;
+    return h;
+}
+
+/* Fills both tables with the same random words: some wholly random, some nearly good. */
+static void garbage(void) {
+    uint64_t wild = below(3), bad = 1 + below(200), odd = 1 + below(20);
+    for (size_t i = 0; i < 4 * m; i++) ours.items[i] = wild == 0 ? any() : an_item_word(i);
+    for (size_t i = 0; i < v; i++) {
+        ours.counters[i] = one_in(4) ? UINT32_MAX - (uint32_t)below(4) : (uint32_t)any();
+        if (!one_in(odd)) ours.counters[i] &= ~UINT32_C(1);
+    }
+    for (size_t i = 0; i < 4 * n; i++)
+        ours.slots[i] = wild == 0 || one_in(bad) ? a_slot_word()
+                        : one_in(6)              ? 0
+                                                 : (uint32_t)((1 + below(255)) << 16 | below(m));
+    if (wild == 0) return;
+    for (size_t i = 0; i < m; i++) /* most places also stand in a home slot, some in two */
+        for (int twice = 0; twice < 2; twice++)
+            if (ours.items[4 * i] != 0 && (twice ? one_in(5) : !one_in(4))) {
+                uint32_t h = hash(ours.items[4 * i]), tag = h >> 24 ? h >> 24 : 1, b = h & (uint32_t)(n - 1);
+                if (one_in(2)) b ^= ((tag * 1540483477u) & (uint32_t)(n - 1)) | 1u;
+                ours.slots[4 * b + below(4)] = tag << 16 | (uint32_t)i;
+            }
+}
+
+static void poke(void) {
+    switch (below(3)) {
+    case 0: { size_t i = below(4 * n); ours.slots[i] = theirs.slots[i] = a_slot_word(); break; }
+    case 1: { size_t i = below(v); ours.counters[i] = theirs.counters[i] = one_in(4) ? (uint32_t)any() : (uint32_t)any() << 1; break; }
+    default: { size_t i = below(4 * m); ours.items[i] = theirs.items[i] = an_item_word(i); }
+    }
+}
+
+static Reply make(const Call *c, Table *t, int anchor) {
+    Reply r;
+    memset(&r, 0, sizeof r);
+#define TABLE t->slots, c->sl, t->counters, c->cl, t->items, c->il
+#define EITHER(name, ...) (anchor ? anchor_##name(__VA_ARGS__) : boughladder_##name(__VA_ARGS__))
+    switch (c->call) {
+    case FRESH: r.refusal = EITHER(fresh, TABLE); break;
+    case READ: case SERVE: {
+        BoughladderReading x = c->call == READ ? EITHER(read, TABLE, c->animal, c->limit, c->now)
+                                               : EITHER(serve, TABLE, c->animal, c->limit, c->now);
+        r.refusal = x.refusal; r.kind = x.kind; r.permission = x.permission; r.age = x.age;
+        break;
+    }
+    case FIND: {
+        BoughladderFinding x = EITHER(find, TABLE, c->animal);
+        r.refusal = x.refusal; r.kind = x.kind; r.place = x.place;
+        break;
+    }
+    case SET: case SETCUT: {
+        BoughladderSetting x = c->call == SET ? EITHER(set, TABLE, c->animal, c->permission, c->now, c->standing)
+                                              : EITHER(set_cut, TABLE, c->animal, c->permission, c->now, c->standing, c->k);
+        r.refusal = x.refusal; r.visits = x.visits; r.moves = x.moves;
+        break;
+    }
+    case DELETE: r.refusal = EITHER(delete, TABLE, c->animal); break;
+    case DELETECUT: r.refusal = EITHER(delete_cut, TABLE, c->animal, c->k); break;
+    case EVICT: case EVICTCUT: {
+        BoughladderEvicting x = c->call == EVICT ? EITHER(evict, TABLE, c->hand) : EITHER(evict_cut, TABLE, c->hand, c->k);
+        r.refusal = x.refusal; r.victim = x.victim; r.looked = x.looked; r.hand = x.hand;
+        break;
+    }
+    default: {
+        BoughladderListing x = EITHER(list, TABLE, t->buffer, c->buffer_length);
+        r.refusal = x.refusal; r.count = x.count;
+    }
+    }
+    return r;
+}
+
+static void tell(const char *who, const Reply *r) {
+    printf("  %-6s refusal %" PRIu64 " kind %" PRIu64 " permission %" PRIu64 " age %" PRIu64 " place %" PRIu64 " visits %" PRIu64
+           " moves %" PRIu64 " victim %" PRIu64 " looked %" PRIu64 " hand %" PRIu64 " count %" PRIu64 "\n",
+           who, r->refusal, r->kind, r->permission, r->age, r->place, r->visits, r->moves, r->victim, r->looked, r->hand,
+           r->count);
+}
+
+static void differs(const Call *c, const Reply *a, const Reply *b, int kind) {
+    printf("DIFFERENCE at call %" PRIu64 ", seed %" PRIu64 ", memory %s, N %zu V %zu M %zu\n", calls, seed, kind_names[kind], n, v, m);
+    printf("  %s lengths %zu %zu %zu animal %" PRIu64 " permission %" PRIu32 " limit %" PRIu64 " now %" PRIu64
+           " standing %" PRIu32 " hand %zu k %" PRIu64 " buffer %zu\n",
+           call_names[c->call], c->sl, c->cl, c->il, c->animal, c->permission, c->limit, c->now, c->standing, c->hand, c->k,
+           c->buffer_length);
+    tell("ours", a);
+    tell("anchor", b);
+    int told = 0;
+    for (size_t i = 0; i < 4 * n; i++)
+        if (ours.slots[i] != theirs.slots[i] && told++ < 10)
+            printf("  slot %zu: ours %" PRIu32 " anchor %" PRIu32 "\n", i, ours.slots[i], theirs.slots[i]);
+    for (size_t i = 0; i < v; i++)
+        if (ours.counters[i] != theirs.counters[i] && told++ < 10)
+            printf("  counter %zu: ours %" PRIu32 " anchor %" PRIu32 "\n", i, ours.counters[i], theirs.counters[i]);
+    for (size_t i = 0; i < 4 * m; i++)
+        if (ours.items[i] != theirs.items[i] && told++ < 10)
+            printf("  item word %zu: ours %" PRIu64 " anchor %" PRIu64 "\n", i, ours.items[i], theirs.items[i]);
+    for (size_t i = 0; i < BUFFER; i++)
+        if (ours.buffer[i] != theirs.buffer[i] && told++ < 10)
+            printf("  buffer byte %zu: ours %u anchor %u\n", i, ours.buffer[i], theirs.buffer[i]);
+    if (told == 0) printf("  the runs are equal; the reply or a word outside the runs differs\n");
+    exit(1);
+}
+
+/* A length that is wrong or shorter; never one that is both good and longer than the memory. */
+static void bend_lengths(Call *c) {
+    static const size_t odd_sl[] = {0, 4, 7, 9, 12, 16384, 8196, 24, SIZE_MAX, (size_t)1 << 33};
+    static const size_t odd_cl[] = {0, 1025, SIZE_MAX, (size_t)1 << 32};
+    static const size_t odd_il[] = {0, 1, 3, 16388, 32768, SIZE_MAX - 3, (size_t)1 << 34};
+    switch (below(6)) {
+    case 0: c->sl = odd_sl[below(10)]; break;
+    case 1: c->cl = odd_cl[below(4)]; break;
+    case 2: c->il = odd_il[below(7)]; break;
+    case 3: c->sl = n > 2 ? 2 * n : 8; break;
+    case 4: c->cl = 1 + below(v); break;
+    default: c->il = below(4 * m + 1);
+    }
+}
+
+static Call a_call(int kind, int growing, size_t hand) {
+    Call c;
+    memset(&c, 0, sizeof c);
+    c.sl = 4 * n; c.cl = v; c.il = 4 * m;
+    c.hand = hand;
+    c.animal = an_animal();
+    c.permission = (uint32_t)any();
+    c.limit = one_in(40) ? 10079 + below(3) : one_in(40) ? any() : below(10081);
+    c.now = one_in(100) ? UINT64_MAX - below(3) : one_in(100) ? below(3) : 20000 + below(14000);
+    c.standing = one_in(10) ? (uint32_t)any() : 0;
+    if (one_in(4)) { /* an animal that has a place, and often an age at the edge of the limit */
+        const uint64_t *item = ours.items + 4 * below(m);
+        if (item[0] != 0) c.animal = item[0];
+        if (item[2] < UINT64_MAX - 10090 && one_in(2)) {
+            c.limit = below(10081);
+            c.now = item[2] + c.limit + below(3);
+            c.now -= c.now != 0;
+        }
+    }
+    c.k = one_in(6) ? below(5000) : below(26);
+    uint64_t dice = below(100);
+    if (dice < 14) c.call = READ;
+    else if (dice < 22) c.call = SERVE;
+    else if (dice < 26) c.call = FIND;
+    else if (dice < (growing ? 86u : 46u)) c.call = SET;
+    else if (dice < (growing ? 92u : 84u)) c.call = DELETE;
+    else if (dice < 98) c.call = EVICT;
+    else if (dice < 99) c.call = LIST;
+    else c.call = one_in(60) ? FRESH : READ;
+    if (kind != CLEAN && one_in(kind == CUT ? 150 : 12)) {
+        if (c.call == SET) c.call = SETCUT;
+        if (c.call == DELETE) c.call = DELETECUT;
+        if (c.call == EVICT) c.call = EVICTCUT;
+    }
+    if (kind == CUT && one_in(40)) { /* a cut at or above the number of stores is the whole call */
+        if (c.call == SET) { c.call = SETCUT; c.k = 23 + below(3); }
+        if (c.call == DELETE) { c.call = DELETECUT; c.k = 7; }
+    }
+    if (one_in(60)) c.hand = one_in(3) ? m + below(2) : one_in(20) ? SIZE_MAX : below(m);
+    if (one_in(150)) bend_lengths(&c);
+    c.buffer_length = one_in(2) ? BUFFER : below(20 * m + 20);
+    return c;
+}
+
+/* Returns how many places are live (counted, for the table of loads). */
+static size_t live_places(void) {
+    size_t live = 0;
+    for (size_t i = 0; i < m; i++) live += theirs.items[4 * i] != 0;
+    return live;
+}
+
+static void episode(int large, int kind, uint64_t length) {
+    if (large) {
+        static const size_t shapes[][3] = {{2048, 1024, 4096}, {1024, 500, 4096}, {512, 1024, 4096}, {2048, 77, 4096}};
+        const size_t *shape = shapes[below(4)];
+        n = shape[0]; v = shape[1]; m = shape[2];
+    } else {
+        n = (size_t)2 << below(6);
+        v = one_in(3) ? 1 + below(3) : 1 + below(2 * n);
+        m = one_in(2) ? 1 + below(300) : 1 + below(5 * n);
+        if (m > 300) m = 300;
+    }
+    size_t room = 4 * n < m ? 4 * n : m;
+    pool_size = room + room / 3 + 3;
+    for (size_t i = 0; i < pool_size; i++) pool[i] = any();
+    lay_out(&ours);
+    lay_out(&theirs);
+    for (size_t i = 0; i < used; i++) ours.block[i] = any();
+    if (kind == GARBAGE) garbage();
+    memcpy(theirs.block, ours.block, sizeof ours.block);
+    for (size_t i = 0; i < BUFFER; i++) ours.buffer[i] = theirs.buffer[i] = (uint8_t)any();
+
+    size_t hand = 0, load = 0;
+    int growing = 1;
+    uint64_t turn = 1 + below(large ? 12000 : 6 * room + 20);
+    for (uint64_t i = 0; i < length; i++) {
+        if (turn-- == 0) {
+            growing = one_in(2);
+            turn = 1 + below(large ? 8000 : 6 * room + 20);
+        }
+        if (kind == POKED && one_in(40)) poke();
+        Call c = a_call(kind, growing, hand);
+        if (i == 0 && kind != GARBAGE) { c.call = FRESH; c.sl = 4 * n; c.cl = v; c.il = 4 * m; }
+        if (kind == CUT && one_in(3000)) c.call = FRESH; /* or the busy counters would stop everything */
+        if (i % 16 == 0) load = live_places();
+        Reply a = make(&c, &ours, 0), b = make(&c, &theirs, 1);
+        calls++;
+        int same = memcmp(&a, &b, sizeof a) == 0 && memcmp(ours.block, theirs.block, 8 * used) == 0;
+        words += 4 * n + v + 4 * m;
+        if (c.call == LIST) {
+            same = same && memcmp(ours.buffer, theirs.buffer, BUFFER) == 0;
+            bytes += BUFFER;
+        }
+        if (!same) differs(&c, &a, &b, kind);
+        by_call[c.call]++;
+        by_kind[kind]++;
+        large_calls += (uint64_t)large;
+        by_refusal[b.refusal]++;
+        by_load[10 * load / room > 10 ? 10 : 10 * load / room]++;
+        if ((c.call == READ || c.call == SERVE) && b.refusal == 0) by_answer[b.kind]++;
+        if ((c.call == SET || c.call == SETCUT) && b.refusal == 0 && b.visits > 0) {
+            by_moves[b.moves]++;
+            if (b.visits > most_visits) most_visits = b.visits;
+        }
+        if ((c.call == SETCUT || c.call == DELETECUT || c.call == EVICTCUT) && b.refusal == 0) stopped_cuts++;
+        if ((c.call == EVICT || c.call == EVICTCUT) && b.refusal == 0) hand = b.hand;
+    }
+}
+
+int main(int argc, char **argv) {
+    if (argc > 1) seed = strtoull(argv[1], NULL, 10);
+    state = seed;
+    while (by_kind[CLEAN] + by_kind[CUT] + by_kind[POKED] < 3000000)
+        episode(0, (int)below(3), 1 + below(9000));
+    while (by_kind[GARBAGE] < 1000000) episode(0, GARBAGE, 1 + below(200));
+    for (int i = 0; i < 30; i++) episode(1, i < 12 ? CLEAN : i < 20 ? CUT : i < 26 ? POKED : GARBAGE, 20000);
+
+    printf("differ: seed %" PRIu64 ", %" PRIu64 " calls (%" PRIu64 " of them on N 512 to 2048 with M 4096), no difference\n", seed, calls, large_calls);
+    printf("compared after every call: all fields of the reply, all words of the runs (%" PRIu64 " words), list buffers (%" PRIu64 " bytes)\n", words, bytes);
+    printf("memory:");
+    for (int i = 0; i < KINDS; i++) printf("  %s %" PRIu64, kind_names[i], by_kind[i]);
+    printf("\ncalls:");
+    for (int i = 0; i < CALLS; i++) printf("  %s %" PRIu64, call_names[i], by_call[i]);
+    printf("\nrefusals:");
+    for (int i = 0; i < 11; i++) printf("  %d: %" PRIu64, i, by_refusal[i]);
+    printf("\nread and serve:  absent %" PRIu64 "  fresh %" PRIu64 "  old %" PRIu64 "  ahead %" PRIu64, by_answer[0], by_answer[1], by_answer[2], by_answer[3]);
+    printf("\nmoves of new entries:");
+    for (int i = 0; i < 5; i++) printf("  %d: %" PRIu64, i, by_moves[i]);
+    printf("\nmost visits: %" PRIu64 "\ncut calls that were not refused: %" PRIu64 "\n", most_visits, stopped_cuts);
+    printf("calls by load (live places of min(M, 4N), in tenths):");
+    for (int i = 0; i < 11; i++) printf("  %d0%%: %" PRIu64, i, by_load[i]);
+    printf("\n");
+    return 0;
+}
