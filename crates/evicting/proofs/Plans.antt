@@ -19,7 +19,7 @@ use Rattle.model.specs.Answers.{evict}
 use Rattle.model.specs.Clock.{Victim, victim}
 use Rattle.model.specs.Calls.{Outcome, call, evict-animal, evict-at, evict-slot, hurt, refuse, slot-of, some-live}
 use Rattle.reading.proofs.Asked.{Y4, hurt-words}
-use Rattle.places.proofs.Found.{scan-within}
+use Rattle.places.proofs.Found.{scan-empty, scan-live, scan-within}
 use Rattle.model.proofs.Laws.{both-no, both-yes, first-same}
 use Rattle.model.proofs.Lent.{fit, four-sizes}
 use Rattle.evicting.specs.Evict.{Aimed, Aims, Handed, Planned, Readies, Turns, evicting, places-in, plan-outcome}
@@ -150,27 +150,20 @@ pub scan-small : (M : ℕ) (l : List ℕ) (hand : ℕ) {s : Scan} {p n : ℕ} �
     → p < 4294967296
 scan-small M l hand few below seen taken = omega (arith, scan-within M l hand seen below taken .below)
 
--- refusals 7 and 10
-module _ (m : Mem) (hand : ℕ) (h : Handed m hand) {b : Bool} (lives : b ≡ some-live (places-in m) (m .items)) where
+-- refusal 7, and the refusals of the victim
+module _ (m : Mem) (hand : ℕ) (h : Handed m hand) where
   abbrev live-due : Outcome
   live-due = evict-at (Y4 m) m hand (victim (places-in m) (m .items) hand)
 
-  past-hand : evicting m hand ≡ choose b live-due (refuse 7)
-  past-hand =
+  past-hand : {b : Bool} → some-live (places-in m) (m .items) ≡ b → evicting m hand ≡ choose b live-due (refuse 7)
+  past-hand lives =
       ap (λ z. choose z (call (Y4 m) m (evict hand)) (refuse 1)) (h .lengths)
       ∙ ap (λ z. choose z (refuse 1) (choose (some-live (places-in m) (m .items)) live-due (refuse 7))) (lt-leb (places-in m) hand (h .below))
-      ∙ ap (λ z. choose z live-due (refuse 7)) (sym lives)
+      ∙ ap (λ z. choose z live-due (refuse 7)) lives
 
-  pub turn-empty : not b ≡ true → Turns m hand (plan.Refused 7)
-  turn-empty q = record { comes = sym (past-hand ∙ ap (λ z. choose z live-due (refuse 7)) (not-true b q)); readies = tt }
-
-  module _ (alive : not b ≡ false) {s : Scan} (seen : scanned s ≡ victim (places-in m) (m .items) hand) where
-    pub turn-nobody : s ≡ scan.Nobody → Turns m hand (plan.Refused 10)
-    turn-nobody q =
-        record {
-          comes = sym (past-hand ∙ ap (λ z. choose z live-due (refuse 7)) (not-false b alive) ∙ ap (evict-at (Y4 m) m hand) (sym seen ∙ ap scanned q));
-          readies = tt;
-        }
+  module _ {s : Scan} (seen : scanned s ≡ victim (places-in m) (m .items) hand) where
+    pub turn-nobody : s ≡ scan.Nobody → Turns m hand (plan.Refused 7)
+    turn-nobody q = record { comes = sym (past-hand (scan-empty (places-in m) (m .items) hand seen (h .below) q)); readies = tt }
 
     module _ {p n : ℕ} (taken : s ≡ scan.Victim p n) where
       pub turn-aimed : Aimed m p
@@ -180,7 +173,7 @@ module _ (m : Mem) (hand : ℕ) (h : Handed m hand) {b : Bool} (lives : b ≡ so
       pub turn-found : {r : Plan} → Planned m p n r → Turns m hand r
       turn-found {r} d =
           record {
-            comes = sym (past-hand ∙ ap (λ z. choose z live-due (refuse 7)) (not-false b alive)
+            comes = sym (past-hand (scan-live (places-in m) (m .items) hand seen (h .below) taken)
                 ∙ ap (evict-at (Y4 m) m hand) (sym seen ∙ ap scanned taken) ∙ sym (d .comes hand));
             readies = ready r (d .aims);
           }

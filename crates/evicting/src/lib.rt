@@ -62,20 +62,17 @@ fn plan_of(slots: &[u32], counters: &[u32], items: &[u64], place: u32, looked: u
     })
 }
 
-// Refusals 7 and 10, then those of the victim. Requires good lengths and a hand below M: the caller has refused any other.
+// Refusal 7, then those of the victim. Where a place is live there is a victim, so that nobody found is nobody there, and refusal 10
+// can't come. Requires good lengths and a hand below M: the caller has refused any other.
 fn plan_scan(slots: &[u32], counters: &[u32], items: &[u64], hand: Hand) -> Plan
     requires { ⌜ Handed (mem (now slots) (now counters) (now items)) (hand .at) ⌝ }
     ensures { λ r. ⌜ Turns (mem (now (slots .entry)) (now (counters .entry)) (now (items .entry))) (hand .at) r ⌝ }
 {
     let m = items.len() / 4;
-    let live = places::some_live(items, m);
-    if !live {
-        return Plan::Refused(7);
-    }
     let scan = places::find_victim(items, m, hand);
     match scan {
         Scan::Victim { place, looked } => plan_of(slots, counters, items, place as u32, looked),
-        Scan::Nobody => Plan::Refused(10),
+        Scan::Nobody => Plan::Refused(7),
     }
 }
 
@@ -158,19 +155,20 @@ fn make_stores(
     storing::remove_entry(slots, counters, items, c, t.slot, t.place, left)
 }
 
-// Evict, of which only the first k stores are made.
-pub fn evict_cut(
+// The plan is carried out, up to its k-th store.
+fn carry_out(
     slots: &mut [u32],
     counters: &mut [u32],
     items: &mut [u64],
     hand: Hand,
+    plan: Plan,
     k: u64,
 ) -> Turned
+    requires { ⌜ Turns (mem (now slots) (now counters) (now items)) (hand .at) plan ⌝ }
     ensures { λ r. ⌜ EvictCut (mem (now (slots .entry)) (now (counters .entry)) (now (items .entry))) (hand .at) k
         (mem (now (slots .exit)) (now (counters .exit)) (now (items .exit))) r ⌝ }
 {
     let m = items.len() / 4;
-    let plan = plan_turn(slots, counters, items, hand);
     match plan {
         Plan::Refused(n) => {
             let answer = Evicting::Refused(n);
@@ -190,9 +188,26 @@ pub fn evict_cut(
     }
 }
 
+// Evict, of which only the first k stores are made.
+pub fn evict_cut(
+    slots: &mut [u32],
+    counters: &mut [u32],
+    items: &mut [u64],
+    hand: Hand,
+    k: u64,
+) -> Turned
+    ensures { λ r. ⌜ EvictCut (mem (now (slots .entry)) (now (counters .entry)) (now (items .entry))) (hand .at) k
+        (mem (now (slots .exit)) (now (counters .exit)) (now (items .exit))) r ⌝ }
+{
+    let plan = plan_turn(slots, counters, items, hand);
+    carry_out(slots, counters, items, hand, plan, k)
+}
+
+// Not by way of the cut form: each function that two others call is a call more in the cabinet.
 pub fn evict(slots: &mut [u32], counters: &mut [u32], items: &mut [u64], hand: Hand) -> Turned
     ensures { λ r. ⌜ Evicted (mem (now (slots .entry)) (now (counters .entry)) (now (items .entry))) (hand .at)
         (mem (now (slots .exit)) (now (counters .exit)) (now (items .exit))) r ⌝ }
 {
-    evict_cut(slots, counters, items, hand, 18446744073709551615)
+    let plan = plan_turn(slots, counters, items, hand);
+    carry_out(slots, counters, items, hand, plan, 18446744073709551615)
 }

@@ -2,17 +2,18 @@
 use Prim.Native.Nat.{ℕ, _+_, _*_, _<_, suc, _≤_, zero}
 use native.Mathlib.Omega.{arith}
 use mathlib.Core.Path.{_≡_, refl, sym, ap, _∙_}
+use mathlib.Core.Bool.{true, false}
 use mathlib.Core.Option.{Option, none, some}
 use mathlib.Core.List.{List}
 use lib.Dec.{eqb, leb}
 use borrow.Author.Tests.{eqb-true}
-use Rattle.model.specs.Choice.{choose, range}
+use Rattle.model.specs.Choice.{choose, range, there}
 use Rattle.model.specs.Memory.{animal, is-recent, live}
 use Rattle.model.specs.Clock.{Victim, next-hand, seek-victim, takes, victim}
-use Rattle.model.specs.Calls.{vacant-place}
+use Rattle.model.specs.Calls.{some-live, vacant-place}
 use Rattle.model.specs.WellFormed.{Live}
-use Rattle.model.proofs.Laws.{First, bool, first-is, found, in-range, missing}
-use Rattle.model.proofs.Clock.{Sought, nobody, somebody, sought}
+use Rattle.model.proofs.Laws.{First, bool, first-is, found, in-range, missing, range-in, true-false}
+use Rattle.model.proofs.Clock.{Sought, always-victim, live-is, live-true, nobody, somebody, sought}
 use Rattle.places.specs.Walks.{scanned, vacancy}
 use Rattle.places.specs.declared.Scan.{Scan}
 use Rattle.places.specs.declared.Scan.the-variants.{Victim as Taken, Nobody}
@@ -49,6 +50,23 @@ victim-within m l hand {v} hm e = go (sought m l (2 * m) hand 0 hm) (at-most m l
     go (somebody {v = w} i lv k) a e =
         let f : w ≡ v = cc in rw (← f) (record { below = i; alive = lv; looked-some = omega arith; looked-most = omega arith })
 
+-- a place is live exactly if there is a victim
+live-one : (m : ℕ) (l : List ℕ) (p : ℕ) → p < m → Live l p → some-live m l ≡ true
+unfolding some-live
+live-one m l p below alive = go (first-is (live l) (range 0 m))
+  where
+    go : {o : Option ℕ} → First (live l) (range 0 m) o → there o ≡ true
+    go (found q t) = refl
+    go (missing h) = true-false (live-true l p alive) (h p (range-in 0 m (omega arith) (omega arith)))
+
+live-none : (m : ℕ) (l : List ℕ) (hand : ℕ) → hand < m → victim m l hand ≡ none → some-live m l ≡ false
+unfolding some-live
+live-none m l hand hm e = go (first-is (live l) (range 0 m))
+  where
+    go : {o : Option ℕ} → First (live l) (range 0 m) o → there o ≡ false
+    go (found {i = p} q t) = absurd (always-victim m l hand p hm (omega (arith, in-range 0 m q)) (live-is l p t) e)
+    go (missing h) = refl
+
 -- the same of the code's answer
 module _ (m : ℕ) (l : List ℕ) (hand : ℕ) {r : Scan} (e : scanned r ≡ victim m l hand) where
   pub scan-victim : {p n : ℕ} → r ≡ Taken p n → victim m l hand ≡ some (record { place = p; looked = n })
@@ -59,6 +77,12 @@ module _ (m : ℕ) (l : List ℕ) (hand : ℕ) {r : Scan} (e : scanned r ≡ vic
 
   pub scan-within : {p n : ℕ} → hand < m → r ≡ Taken p n → Within m l (record { place = p; looked = n })
   scan-within hm q = victim-within m l hand hm (scan-victim q)
+
+  pub scan-live : {p n : ℕ} → hand < m → r ≡ Taken p n → some-live m l ≡ true
+  scan-live h q = let w = scan-within h q in live-one m l _ (w .below) (w .alive)
+
+  pub scan-empty : hand < m → r ≡ Nobody → some-live m l ≡ false
+  scan-empty h q = live-none m l hand h (scan-nobody q)
 
 -- a vacant place that was found is one of m places and is vacant
 pub record VacantAt (m : ℕ) (l : List ℕ) (p : ℕ) : Type 0 where

@@ -11,10 +11,10 @@ use mathlib.Core.List.{List}
 use lib.ListN.{getD}
 use lib.Dec.{eqb, leb}
 use borrow.Author.Tests.{lt-ltb, le-ltb, eq-eqb, ne-eqb, not-false}
-use Rattle.model.specs.Choice.{choose, first, range, there}
+use Rattle.model.specs.Choice.{choose, first, range}
 use Rattle.model.specs.Memory.{animal, live, recent}
 use Rattle.model.specs.Clock.{next-hand, seek-victim, takes, victim}
-use Rattle.model.specs.Calls.{some-live, vacant-place}
+use Rattle.model.specs.Calls.{vacant-place}
 use Rattle.model.proofs.Clock.{live-is}
 use Rattle.places.specs.Walks.{all-live, scanned, vacancy, vacant-from}
 use Rattle.places.specs.declared.Scan.the-variants.{Victim as Taken, Nobody}
@@ -83,24 +83,6 @@ module _ (f : ℕ → Bool) (m p : ℕ) where
   unfolding first range
   first-end h = let e : m - p ≡ 0 = omega arith in rw e
 
--- no place below p is live: the rest decides
-pub record NoneLive (m : ℕ) (l : List ℕ) (p : ℕ) : Type 0 where
-  pub same : there (first (live l) (range p (m - p))) ≡ some-live m l
-
-pub none-live-yet : (m : ℕ) (l : List ℕ) → NoneLive m l 0
-unfolding some-live
-none-live-yet m l = record { same = rw sub-zero }
-
-module _ {m p : ℕ} {l : List ℕ} (s : NoneLive m l p) where
-  pub by-one-live : p < m → (animal l p ≡ 0 → ⊥) → true ≡ some-live m l
-  by-one-live h a = sym (ap there (first-on (live l) m p h) ∙ rw (ne-eqb (animal l p) 0 a)) ∙ s .same
-
-  pub by-not-live : p < m → animal l p ≡ 0 → NoneLive m l (p + 1)
-  by-not-live h a = record { same = sym (ap there (first-on (live l) m p h) ∙ rw (eq-eqb (animal l p) 0 a)) ∙ s .same }
-
-  pub by-none-live : m ≤ p → false ≡ some-live m l
-  by-none-live h = sym (ap there (first-end (live l) m p h)) ∙ s .same
-
 -- no place from p to q - 1 is vacant: the rest decides
 pub record NoneVacant (m : ℕ) (l : List ℕ) (p q : ℕ) : Type 0 where
   pub same : vacant-from m l q ≡ vacant-from m l p
@@ -134,9 +116,13 @@ by-lives (suc n) {m} {p} {q} {l} s h t =
     let e : q + suc n ≡ q + n + 1 = omega arith in
     rw e (by-live (by-lives n s (omega arith) (b .0)) (omega arith) (live-is l (q + n) (b .1)))
 
--- a turn that passes eight places
-pub by-eight : {m p q : ℕ} {l : List ℕ} {r : Bool} → NoneVacant m l p q → q + 8 ≤ m → r ≡ all-live l q 8 → not r ≡ false → NoneVacant m l p (q + 8)
-by-eight {r = r} s h e t = by-lives 8 s h (sym e ∙ not-false r t)
+-- a turn that passes sixteen places, eight and eight
+pub by-sixteen : {m p q : ℕ} {l : List ℕ} {a b : Bool} → NoneVacant m l p q → q + 16 ≤ m → a ≡ all-live l q 8 → b ≡ all-live l (q + 8) 8
+    → not (a && b) ≡ false → NoneVacant m l p (q + 16)
+by-sixteen {q = q} {a = a} {b = b} s h e f t =
+    let t′ = both-true a b (not-false (a && b) t) in
+    let g : q + 16 ≡ q + 8 + 8 = omega arith in
+    rw g (by-lives 8 (by-lives 8 s (omega arith) (sym e ∙ t′ .0)) (omega arith) (sym f ∙ t′ .1))
 
 -- where no place so far is vacant, what is found in the rest is what is asked for
 pub by-rest : {m p : ℕ} {l : List ℕ} {o : Option ℕ} → NoneVacant m l 0 p → o ≡ vacant-from m l p → o ≡ vacant-place m l

@@ -3,7 +3,7 @@ ghost use mathlib.Core.Path.{_≡_};
 ghost use Prim.Native.Nat.{_+_, _*_, _<_, _≤_};
 ghost use lib.ListN.{length};
 ghost use Rattle.model.specs.Clock.{next-hand, victim};
-ghost use Rattle.model.specs.Calls.{some-live, vacant-place};
+ghost use Rattle.model.specs.Calls.{vacant-place};
 ghost use Rattle.places.specs.Walks.{scanned, vacancy, all-live, vacant-from};
 
 // The clock hand, by value.
@@ -57,21 +57,6 @@ pub fn find_victim(items: &[u64], m: usize, hand: Hand) -> Scan
     Scan::Nobody
 }
 
-// One of m places is live.
-pub fn some_live(items: &[u64], m: usize) -> bool
-    requires { ⌜ (m ≤ 4096) × (length (now items) ≡ 4 * m) ⌝ }
-    ensures { λ r. ⌜ r ≡ some-live m (now (items .entry)) ⌝ }
-{
-    let mut p: usize = 0;
-    while p < m {
-        if items[4 * p] != 0 {
-            return true;
-        }
-        p += 1;
-    }
-    false
-}
-
 // The lowest vacant place; or none is vacant.
 pub enum Vacancy {
     At(usize),
@@ -109,17 +94,19 @@ fn vacant_from(items: &[u64], m: usize, p: usize) -> Vacancy
     Vacancy::Full
 }
 
-// The lowest vacant one of m places: eight a turn, and place by place where one of them is vacant or fewer are left.
+// The lowest vacant one of m places: sixteen a turn, and place by place where one of them is vacant or fewer are left.
 pub fn vacant_place(items: &[u64], m: usize) -> Vacancy
     requires { ⌜ (m ≤ 4096) × (length (now items) ≡ 4 * m) ⌝ }
     ensures { λ r. ⌜ vacancy r ≡ vacant-place m (now (items .entry)) ⌝ }
 {
     let mut p: usize = 0;
-    while p + 8 <= m {
-        if !eight_live(items, p) {
+    while p + 16 <= m {
+        let near = eight_live(items, p);
+        let far = eight_live(items, p + 8);
+        if !(near & far) {
             return vacant_from(items, m, p);
         }
-        p += 8;
+        p += 16;
     }
     vacant_from(items, m, p)
 }

@@ -135,14 +135,14 @@ module _ (l : List ℕ) (t x w : ℕ) {v : ℕ} (e : w / 65536 ≡ t) (number : 
   alone-by-number q = alone-hit l t x w e (sym number ∙ q)
 
 -- the ways out of the search for the hit word, in the code's own words
-module _ (l : List ℕ) (t x : ℕ) {w : ℕ} (ws : List ℕ) (range : (1 ≤ t) × (t < 256)) (sum : w ≡ tag-sum t ws) where
+module _ (l : List ℕ) (t x : ℕ) {w : ℕ} (ws : List ℕ) (known : (1 ≤ t) × (w ≡ tag-sum t ws)) where
   pub by-no-tag : w ≡ 0 → 0 ≡ found-word (first (leads l t x) ws)
-  by-no-tag z = sym (ap found-word (hit-none t (range .0) l x ws (sym sum ∙ z)))
+  by-no-tag z = sym (ap found-word (hit-none t (known .0) l x ws (sym (known .1) ∙ z)))
 
   module _ {v : ℕ} (e : w / 65536 ≡ t) (number : v ≡ getD l (4 * (w % 65536)) 0) where
     one-word : first (leads l t x) ws ≡ first (leads l t x) (w ∷ [])
     unfolding tag
-    one-word = rw sum (hit-one t (range .0) l x ws (rw sum at e))
+    one-word = rw (known .1) (hit-one t (known .0) l x ws (rw (known .1) at e))
 
     pub by-number : v ≡ x → w ≡ found-word (first (leads l t x) ws)
     by-number q = alone-by-number l t x w e number q ∙ sym (ap found-word one-word)

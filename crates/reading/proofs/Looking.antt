@@ -1,12 +1,12 @@
 -- Look up, find, and the slot of a word: a law a way out, in the code's own words. Assumes nothing.
-use Prim.Native.Nat.{ℕ, _+_, suc, _%_, _/_}
+use Prim.Native.Nat.{ℕ, _+_, _*_, _<_, suc, _%_, _/_}
 use native.Mathlib.Omega.{arith}
 use native.Mathlib.Decide.{ℕ-discrete}
 use mathlib.Core.Path.{_≡_, refl, sym, ap, _∙_, subst, ap₂}
 use mathlib.Core.Logic.{_≢_, dite}
 use mathlib.Core.Bool.{Bool, true, false}
 use mathlib.Core.Option.{Option, none, some}
-use mathlib.Core.List.{List, [], _∷_, _++_}
+use mathlib.Core.List.{List, [], _∷_, _++_, List·Memᴰ as In, List·Memᴰ·head as head, List·Memᴰ·tail as tail}
 use lib.ListN.{length, getD}
 use lib.Dec.{eqb}
 use borrow.Author.Tests.{eq-eqb, ne-eqb}
@@ -18,16 +18,14 @@ use Rattle.model.specs.Calls.{Outcome, asked, busy, find-at, held, hurt, refuse
 use Rattle.model.specs.Lent.{lent-call}
 use Rattle.model.specs.AnyTable.{slot}
 use Rattle.model.specs.Demands.{places}
-use Rattle.model.proofs.Laws.{bool}
+use Rattle.model.proofs.Laws.{First, bool, first-is, found, in-range, missing}
 use Rattle.model.proofs.Calm.{calm}
-use Rattle.reading.specs.Look.{HomesIn, LooksUp, Passed, early, found-word, home-words, leads, look-of, look-word, slot-found}
-use Rattle.reading.proofs.Asked.{Y4, early-outcome, early-passed, held-word, hit-among, hurt-words, word-place}
+use Rattle.reading.specs.Look.{HomesIn, LooksUp, Passed, early, found-word, home-words, leads, look-of, look-word, slot-or}
+use Rattle.reading.proofs.Asked.{Y4, by-busy, by-hurt, by-sound, early-outcome, early-passed, held-as, held-word, hit-among, hurt-words, word-place}
 use Rattle.hashing.specs.declared.Homes.{Homes}
 use Rattle.reading.specs.declared.Look.{Look}
 use Rattle.reading.specs.declared.Look.the-variants as look
 use Rattle.reading.specs.declared.Looked.{Looked}
-use Rattle.reading.specs.declared.Slot.{Slot}
-use Rattle.reading.specs.declared.Slot.the-variants as slot
 
 module _ (m : Mem) (x : ℕ) {h : Homes} {b : Bool} (right : right-lengths 4 4 sizes m ≡ true) (hs : HomesIn m x h)
     (odd : b ≡ eqb (getD (m .counters) (h .counter) 0 % 2) 1) where
@@ -151,65 +149,40 @@ module _ (m : Mem) (x : ℕ) {n : ℕ} (e : n ≡ early (right-lengths 4 4 sizes
   pub find-early : n ≢ 0 → refused n ≡ finding
   find-early nz = sym (ap (λ (o : Outcome). o .answer) (early-outcome (right-lengths 4 4 sizes m) false x n e nz m find-rest))
 
-  module _ (z : n ≡ 0) {r : Looked} (l : LooksUp m x r) where
+  module _ {h : Homes} {b : Bool} (z : n ≡ 0) (hs : HomesIn m x h) (odd : b ≡ eqb (getD (m .counters) (h .counter) 0 % 2) 1) where
     passed-now : Passed m x false
     passed-now = early-passed m x false refl e z
 
-    pub find-refused : {k : ℕ} → r .look ≡ look.Refused k → refused k ≡ finding
-    find-refused q = sym (ap (λ (o : Outcome). o .answer) (look-refused m x false find-rest passed-now l q))
+    pub find-busy : b ≡ true → refused 8 ≡ finding
+    find-busy q = sym (ap (λ (o : Outcome). o .answer) (by-busy m x passed-now hs find-rest odd q))
 
-    pub find-absent : r .look ≡ look.Absent → absent ≡ finding
-    find-absent q =
-        let s = look-lacks m x false find-rest passed-now l q in
-        sym (ap (λ (o : Outcome). o .answer) (s .0) ∙ ap (find-at (Y4 m)) (s .1))
+    module _ (calm : b ≡ false) {ws : List ℕ} {k : ℕ} {c : Bool} (words : ws ≡ home-words (m .slots) (h .first) (h .second))
+        (places : k ≡ length (m .items) / 4) (damage : c ≡ any (damaged k) ws) where
+      pub find-hurt : c ≡ true → refused 4 ≡ finding
+      find-hurt q = sym (ap (λ (o : Outcome). o .answer) (by-hurt m x passed-now hs find-rest odd calm words places damage q))
 
-    pub find-held : {w : ℕ} → r .look ≡ look.At w → at-place (w % 65536) ≡ finding
-    unfolding place
-    find-held q =
-        let s = look-holds m x false find-rest passed-now l q in
-        sym (ap (λ (o : Outcome). o .answer) (s .0) ∙ ap (find-at (Y4 m)) (s .1))
+      module _ (sound : c ≡ false) {w : ℕ} (hit-is : w ≡ found-word (first (leads (m .items) (h .tag) x) ws)) where
+        found-at : finding ≡ find-at (Y4 m) (word-place w)
+        found-at =
+            ap (λ (o : Outcome). o .answer) (by-sound m x passed-now hs find-rest odd calm words places damage sound)
+            ∙ ap (find-at (Y4 m)) (held-as m x passed-now hs find-rest odd calm words places damage hit-is)
 
--- the slot of a word
-module _ (T : List ℕ) (w a : ℕ) where
-  abbrev has : ℕ → Bool
-  has i = eqb (getD T i 0) w
+        pub find-absent : w ≡ 0 → absent ≡ finding
+        find-absent q = sym (found-at ∙ ap (λ b. find-at (Y4 m) (choose b none (some (place w)))) (eq-eqb w 0 q))
 
-  four : range a 4 ≡ a ∷ (a + 1) ∷ (a + 2) ∷ (a + 3) ∷ []
-  unfolding range
-  four =
-      let e₁ : suc a ≡ a + 1 = omega arith in
-      let e₂ : suc (suc a) ≡ a + 2 = omega arith in
-      let e₃ : suc (suc (suc a)) ≡ a + 3 = omega arith in
-      ap₂ (λ (i j : ℕ). a ∷ i ∷ j ∷ suc (suc (suc a)) ∷ []) e₁ e₂ ∙ ap (λ (k : ℕ). a ∷ (a + 1) ∷ (a + 2) ∷ k ∷ []) e₃
+        pub find-held : w ≢ 0 → at-place (w % 65536) ≡ finding
+        unfolding place
+        find-held q = sym (found-at ∙ ap (λ b. find-at (Y4 m) (choose b none (some (place w)))) (ne-eqb w 0 q))
 
-  pub slot-first : getD T a 0 ≡ w → some a ≡ first has (range a 4)
-  unfolding first
-  slot-first e = rw four (rw (eq-eqb (getD T a 0) w e))
+four : (a : ℕ) → range a 4 ≡ a ∷ (a + 1) ∷ (a + 2) ∷ (a + 3) ∷ []
+unfolding range
+four a =
+    let e₁ : suc a ≡ a + 1 = omega arith in
+    let e₂ : suc (suc a) ≡ a + 2 = omega arith in
+    let e₃ : suc (suc (suc a)) ≡ a + 3 = omega arith in
+    ap₂ (λ (i j : ℕ). a ∷ i ∷ j ∷ suc (suc (suc a)) ∷ []) e₁ e₂ ∙ ap (λ (k : ℕ). a ∷ (a + 1) ∷ (a + 2) ∷ k ∷ []) e₃
 
-  module _ (n₀ : getD T a 0 ≢ w) where
-    pub slot-second : getD T (a + 1) 0 ≡ w → some (a + 1) ≡ first has (range a 4)
-    unfolding first
-    slot-second e = rw four (rw (ne-eqb (getD T a 0) w n₀, eq-eqb (getD T (a + 1) 0) w e))
-
-    module _ (n₁ : getD T (a + 1) 0 ≢ w) where
-      pub slot-third : getD T (a + 2) 0 ≡ w → some (a + 2) ≡ first has (range a 4)
-      unfolding first
-      slot-third e = rw four (rw (ne-eqb (getD T a 0) w n₀, ne-eqb (getD T (a + 1) 0) w n₁, eq-eqb (getD T (a + 2) 0) w e))
-
-      module _ (n₂ : getD T (a + 2) 0 ≢ w) where
-        pub slot-fourth : getD T (a + 3) 0 ≡ w → some (a + 3) ≡ first has (range a 4)
-        unfolding first
-        slot-fourth e =
-            rw four
-            (rw (ne-eqb (getD T a 0) w n₀, ne-eqb (getD T (a + 1) 0) w n₁, ne-eqb (getD T (a + 2) 0) w n₂, eq-eqb (getD T (a + 3) 0) w e))
-
-        pub slot-none : getD T (a + 3) 0 ≢ w → none ≡ first has (range a 4)
-        unfolding first
-        slot-none e =
-            rw four
-            (rw (ne-eqb (getD T a 0) w n₀, ne-eqb (getD T (a + 1) 0) w n₁, ne-eqb (getD T (a + 2) 0) w n₂, ne-eqb (getD T (a + 3) 0) w e))
-
--- the first of two lists
+-- the slot of a word, or another number
 abbrev or-first : Option ℕ → Option ℕ → Option ℕ
 or-first none o = o
 or-first (some i) o = some i
@@ -220,9 +193,64 @@ first-append f [] ys = refl
 first-append f (x ∷ xs) ys =
     bool (λ b. choose b (some x) (first f (xs ++ ys)) ≡ or-first (choose b (some x) (first f xs)) (first f ys)) (f x) (λ e. refl) λ e. first-append f xs ys
 
-pub slot-near : (f : ℕ → Bool) (xs ys : List ℕ) {r : Slot} {i : ℕ} → slot-found r ≡ first f xs → r ≡ slot.At i → some i ≡ first f (xs ++ ys)
-slot-near f xs ys {r} {i} e q = sym (first-append f xs ys ∙ ap (λ o. or-first o (first f ys)) (sym e ∙ ap slot-found q))
+slot-or-first : (other : ℕ) (o o′ : Option ℕ) → slot-or (slot-or other o′) o ≡ slot-or other (or-first o o′)
+slot-or-first other none o′ = refl
+slot-or-first other (some i) o′ = refl
 
-pub slot-far : (f : ℕ → Bool) (xs ys : List ℕ) {r : Slot} (s : Slot) → slot-found r ≡ first f xs → r ≡ slot.Nowhere → slot-found s ≡ first f ys
-    → slot-found s ≡ first f (xs ++ ys)
-slot-far f xs ys {r} s e q e′ = e′ ∙ sym (first-append f xs ys ∙ ap (λ o. or-first o (first f ys)) (sym e ∙ ap slot-found q))
+below-both : {L : ℕ} (xs ys : List ℕ) → ((i : ℕ) → In i xs → i < L) → ((i : ℕ) → In i ys → i < L) → (i : ℕ) → In i (xs ++ ys) → i < L
+below-both [] ys h h′ i q = h′ i q
+below-both (x ∷ xs) ys h h′ i (head e) = h i (head e)
+below-both (x ∷ xs) ys h h′ i (tail q) = below-both xs ys (λ j p. h j (tail p)) h′ i q
+
+module _ (T : List ℕ) (w : ℕ) where
+  abbrev has : ℕ → Bool
+  has i = eqb (getD T i 0) w
+
+  one-slot : (i other : ℕ) (is : List ℕ) → choose (has i) i (slot-or other (first has is)) ≡ slot-or other (first has (i ∷ is))
+  unfolding first
+  one-slot i other is = bool (λ b. choose b i (slot-or other (first has is)) ≡ slot-or other (choose b (some i) (first has is))) (has i) (λ e. refl) λ e. refl
+
+  no-slot : (other : ℕ) → other ≡ slot-or other (first has [])
+  unfolding first
+  no-slot other = refl
+
+  -- from the last slot of a bucket back to its first
+  pub four-slots : (a other : ℕ) {a₃ a₂ a₁ r : ℕ} → a₃ ≡ choose (has (a + 3)) (a + 3) other → a₂ ≡ choose (has (a + 2)) (a + 2) a₃
+      → a₁ ≡ choose (has (a + 1)) (a + 1) a₂ → r ≡ choose (has a) a a₁ → r ≡ slot-or other (first has (range a 4))
+  four-slots a other e₃ e₂ e₁ e₀ =
+      let s₃ = e₃ ∙ ap (choose (has (a + 3)) (a + 3)) (no-slot other) ∙ one-slot (a + 3) other [] in
+      let s₂ = e₂ ∙ ap (choose (has (a + 2)) (a + 2)) s₃ ∙ one-slot (a + 2) other ((a + 3) ∷ []) in
+      let s₁ = e₁ ∙ ap (choose (has (a + 1)) (a + 1)) s₂ ∙ one-slot (a + 1) other ((a + 2) ∷ (a + 3) ∷ []) in
+      let s₀ = e₀ ∙ ap (choose (has a) a) s₁ ∙ one-slot a other ((a + 1) ∷ (a + 2) ∷ (a + 3) ∷ []) in
+      s₀ ∙ ap (λ (is : List ℕ). slot-or other (first has is)) (sym (four a))
+
+  -- in the near bucket, in the far one, or nowhere: at L, where no slot is
+  module _ (L near far : ℕ) (in-run : (near * 4 + 3 < L) × (far * 4 + 3 < L)) {t r : ℕ} (there : t ≡ slot-or L (first has (range (far * 4) 4)))
+      (seen : r ≡ slot-or t (first has (range (near * 4) 4))) where
+    abbrev both : List ℕ
+    both = range (near * 4) 4 ++ range (far * 4) 4
+
+    slot-is : r ≡ slot-or L (first has both)
+    slot-is =
+        seen ∙ ap (λ (t : ℕ). slot-or t (first has (range (near * 4) 4))) there
+        ∙ slot-or-first L (first has (range (near * 4) 4)) (first has (range (far * 4) 4))
+        ∙ ap (slot-or L) (sym (first-append has (range (near * 4) 4) (range (far * 4) 4)))
+
+    below : (i : ℕ) → In i both → i < L
+    below =
+        below-both (range (near * 4) 4) (range (far * 4) 4) (λ i q. omega (arith, in-range (near * 4) 4 q))
+        λ i q. omega (arith, in-range (far * 4) 4 q)
+
+    pub slot-nowhere : r ≡ L → none ≡ first has both
+    slot-nowhere z = go (first-is has both) (sym z ∙ slot-is)
+      where
+        go : {o : Option ℕ} → First has both o → L ≡ slot-or L o → none ≡ o
+        go (missing h) e = refl
+        go (found {i = i} q t) e = absurd (omega (arith, below i q))
+
+    pub slot-somewhere : r ≢ L → some r ≡ first has both
+    slot-somewhere n = go (first-is has both) slot-is
+      where
+        go : {o : Option ℕ} → First has both o → r ≡ slot-or L o → some r ≡ o
+        go (missing h) e = absurd (n e)
+        go (found {i = i} q t) e = ap some e

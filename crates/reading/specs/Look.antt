@@ -100,3 +100,8 @@ pub record LooksUp (m : Mem) (x : ℕ) (r : Looked) : Type 0 where
 abbrev pub slot-found : Slot → Option ℕ
 slot-found (slot.At i) = some i
 slot-found slot.Nowhere = none
+
+-- the slot that was found, or another number
+abbrev pub slot-or : ℕ → Option ℕ → ℕ
+slot-or other none = other
+slot-or other (some i) = i

@@ -12,7 +12,7 @@ ghost use Rattle.model.specs.Answers.{read, serve, find};
 ghost use Rattle.model.specs.Age.{verdict, is-fresh, bad-time};
 ghost use Rattle.model.specs.Lent.{lent-call};
 ghost use Rattle.model.specs.Said.{said-reading, said-finding};
-ghost use Rattle.reading.specs.Look.{words-of, home-words, tag-sum, leads, found-word, first-of, early, Passed, HomesIn, Served, LooksUp, slot-found};
+ghost use Rattle.reading.specs.Look.{words-of, home-words, tag-sum, leads, found-word, first-of, early, Passed, HomesIn, Served, LooksUp, slot-found, slot-or};
 use hashing::Homes;
 use model::Finding;
 use model::Reading;
@@ -140,18 +140,18 @@ fn hit_by_slots(items: &[u64], e: Eight, tag: u32, animal: u64) -> u32
     or_else(leading_word(items, e.w0, tag, animal), a1)
 }
 
-// The word of the hit, or 0: no word of a hit is 0, because no tag is.
-pub fn hit_word(items: &[u64], e: Eight, tag: u32, animal: u64) -> u32
-    requires { ⌜ (1 ≤ tag) × (tag < 256) ⌝ }
+// The word of the hit, or 0: no word of a hit is 0, because no tag is. The sum says whether one word has the tag.
+// It is made by the caller: so this stays small, and the compiler puts it into each caller.
+fn hit_word(items: &[u64], e: Eight, tag: u32, animal: u64, sum: u32) -> u32
+    requires { ⌜ (1 ≤ tag) × (sum ≡ tag-sum tag (words-of e)) ⌝ }
     ensures { λ r. ⌜ r ≡ found-word (first (leads (now (items .entry)) tag animal) (words-of e)) ⌝ }
 {
-    let w = sum_with_tag(e, tag);
-    if w == 0 {
+    if sum == 0 {
         return 0;
     }
-    if w / 65536 == tag {
-        if get64(items, 4 * ((w % 65536) as usize)) == animal {
-            return w;
+    if sum / 65536 == tag {
+        if get64(items, 4 * ((sum % 65536) as usize)) == animal {
+            return sum;
         }
         return 0;
     }
@@ -254,7 +254,8 @@ fn read_good(
     if any_damaged(e, m) {
         return Reading::Refused(4);
     }
-    let w = hit_word(items, e, h.tag, animal);
+    let sum = sum_with_tag(e, h.tag);
+    let w = hit_word(items, e, h.tag, animal, sum);
     if w == 0 {
         return Reading::Absent;
     }
@@ -334,7 +335,8 @@ fn serve_good(
     if any_damaged(e, m) {
         return Reading::Refused(4);
     }
-    let w = hit_word(items, e, h.tag, animal);
+    let sum = sum_with_tag(e, h.tag);
+    let w = hit_word(items, e, h.tag, animal, sum);
     if w == 0 {
         return Reading::Absent;
     }
@@ -368,7 +370,7 @@ pub fn serve(
     serve_good(slots, counters, items, animal, limit, minute)
 }
 
-// What set, delete and find look up: a refusal, nothing, or the word of the hit.
+// What set and delete look up: a refusal, nothing, or the word of the hit.
 pub enum Look {
     Refused(u32),
     Absent,
@@ -400,7 +402,8 @@ pub fn look_up(slots: &[u32], counters: &[u32], items: &[u64], animal: u64) -> L
             homes,
         };
     }
-    let w = hit_word(items, e, homes.tag, animal);
+    let sum = sum_with_tag(e, homes.tag);
+    let w = hit_word(items, e, homes.tag, animal, sum);
     if w == 0 {
         return Looked {
             look: Look::Absent,
@@ -413,7 +416,7 @@ pub fn look_up(slots: &[u32], counters: &[u32], items: &[u64], animal: u64) -> L
     }
 }
 
-// The place of an animal.
+// The place of an animal. Slot by slot, since nobody waits for it: with two callers the compiler keeps the slow path out of a read.
 pub fn find(slots: &[u32], counters: &[u32], items: &[u64], animal: u64) -> Finding
     ensures { λ r. ⌜ said-finding r
         ≡ lent-call 4 4 sizes (mem (now (slots .entry)) (now (counters .entry)) (now (items .entry))) (find animal) .answer ⌝ }
@@ -422,13 +425,20 @@ pub fn find(slots: &[u32], counters: &[u32], items: &[u64], animal: u64) -> Find
     if no != 0 {
         return Finding::Refused(no);
     }
-    let looked = look_up(slots, counters, items, animal);
-    let look = looked.look;
-    match look {
-        Look::Refused(n) => Finding::Refused(n),
-        Look::Absent => Finding::Absent,
-        Look::At(w) => Finding::At((w % 65536) as usize),
+    let h = homes_in(slots, counters, items, animal);
+    if is_odd(counters, h.counter) {
+        return Finding::Refused(8);
     }
+    let e = home_words_of(slots, h.first, h.second);
+    let m = (items.len() / 4) as u32;
+    if any_damaged(e, m) {
+        return Finding::Refused(4);
+    }
+    let w = hit_by_slots(items, e, h.tag, animal);
+    if w == 0 {
+        return Finding::Absent;
+    }
+    Finding::At((w % 65536) as usize)
 }
 
 // A slot that was looked for.
@@ -437,25 +447,26 @@ pub enum Slot {
     Nowhere,
 }
 
-// The first slot of a bucket with a word.
-fn slot_in(slots: &[u32], b: u32, w: u32) -> Slot
+// Slot i if it has the word, else another.
+fn slot_if(has: bool, i: usize, other: usize) -> usize
+    ensures { λ r. ⌜ r ≡ choose has i other ⌝ }
+{
+    if has {
+        return i;
+    }
+    other
+}
+
+// The first slot of a bucket with a word, else another. All four are compared and none is branched on: where a word stands can't be foretold.
+fn slot_among(slots: &[u32], b: u32, w: u32, other: usize) -> usize
     requires { ⌜ b * 4 + 3 < length (now slots) ⌝ }
-    ensures { λ r. ⌜ slot-found r ≡ first (λ i. eqb (getD (now (slots .entry)) i 0) w) (range (b * 4) 4) ⌝ }
+    ensures { λ r. ⌜ r ≡ slot-or other (first (λ i. eqb (getD (now (slots .entry)) i 0) w) (range (b * 4) 4)) ⌝ }
 {
     let at = (b as usize) * 4;
-    if slots[at] == w {
-        return Slot::At(at);
-    }
-    if slots[at + 1] == w {
-        return Slot::At(at + 1);
-    }
-    if slots[at + 2] == w {
-        return Slot::At(at + 2);
-    }
-    if slots[at + 3] == w {
-        return Slot::At(at + 3);
-    }
-    Slot::Nowhere
+    let last = slot_if(slots[at + 3] == w, at + 3, other);
+    let third = slot_if(slots[at + 2] == w, at + 2, last);
+    let second = slot_if(slots[at + 1] == w, at + 1, third);
+    slot_if(slots[at] == w, at, second)
 }
 
 // The first home slot with a word.
@@ -463,9 +474,11 @@ pub fn slot_of(slots: &[u32], near: u32, far: u32, w: u32) -> Slot
     requires { ⌜ (near * 4 + 3 < length (now slots)) × (far * 4 + 3 < length (now slots)) ⌝ }
     ensures { λ r. ⌜ slot-found r ≡ first (λ i. eqb (getD (now (slots .entry)) i 0) w) (range (near * 4) 4 ++ range (far * 4) 4) ⌝ }
 {
-    let found = slot_in(slots, near, w);
-    match found {
-        Slot::At(i) => Slot::At(i),
-        Slot::Nowhere => slot_in(slots, far, w),
+    let nowhere = slots.len();
+    let there = slot_among(slots, far, w, nowhere);
+    let slot = slot_among(slots, near, w, there);
+    if slot == nowhere {
+        return Slot::Nowhere;
     }
+    Slot::At(slot)
 }

@@ -4,8 +4,11 @@ use borrow.Author.Needs.{needs}
 use Rattle.evicting.proofs.evict.Statement.{statement}
 use Rattle.evicting.proofs.evict.Tie as tie
 
-evict-cut-requires : tie.Need-evict-cut-requires
-evict-cut-requires c κs = search needs
+plan-turn-requires : tie.Need-plan-turn-requires
+plan-turn-requires c κs = search needs
+
+carry-out-requires : tie.Need-carry-out-requires
+carry-out-requires c κs = search needs
 
 same-length : tie.Need-same-length
 same-length c = search needs
@@ -21,4 +24,11 @@ returns c = search largest-whole
 
 pub evict-spec : {M : Type 1} → statement M
 evict-spec =
-    tie.close (tie.spec evict-cut-requires same-length same-length-2 same-length-3 returns)
+    tie.close
+    (tie.spec
+    plan-turn-requires
+    carry-out-requires
+    same-length
+    same-length-2
+    same-length-3
+    returns)

@@ -1,14 +1,8 @@
 -- `evicting::plan_scan` meets its contract: one law a way out. Assumes nothing.
-use Rattle.evicting.proofs.Plans.{turn-empty, scan-small, turn-aimed, turn-found, turn-nobody}
+use Rattle.evicting.proofs.Plans.{scan-small, turn-aimed, turn-found, turn-nobody}
 use borrow.Author.Needs.{needs}
 use Rattle.evicting.proofs.plan_scan.Statement.{statement}
 use Rattle.evicting.proofs.plan_scan.Tie as tie
-
-some-live-requires : tie.Need-some-live-requires
-some-live-requires c κs = search needs
-
-returns : tie.Need-returns
-returns c = search turn-empty
 
 find-victim-requires : tie.Need-find-victim-requires
 find-victim-requires c κs = search needs
@@ -25,22 +19,20 @@ plan-of-requires c κs = search turn-aimed
 enum-told : tie.Need-enum-told
 enum-told c = search needs
 
-returns-2 : tie.Need-returns-2
-returns-2 c = search turn-found
+returns : tie.Need-returns
+returns c = search turn-found
 
-returns-3 : tie.Need-returns-3
-returns-3 c = search turn-nobody
+returns-2 : tie.Need-returns-2
+returns-2 c = search turn-nobody
 
 pub plan-scan-spec : {M : Type 1} → statement M
 plan-scan-spec =
     tie.close
     (tie.spec
-    some-live-requires
-    returns
     find-victim-requires
     enum-known-scan
     cast-plan-of
     plan-of-requires
     enum-told
-    returns-2
-    returns-3)
+    returns
+    returns-2)

@@ -1,6 +1,6 @@
--- `places::vacant_place` meets its contract: eight live places are passed at once. Assumes nothing.
+-- `places::vacant_place` meets its contract: sixteen live places are passed at once. Assumes nothing.
 use Prim.Native.Nat.{_≤_, _-_}
-use Rattle.places.proofs.Laws.{NoneVacant, none-vacant-yet, by-eight, by-rest}
+use Rattle.places.proofs.Laws.{NoneVacant, none-vacant-yet, by-sixteen, by-rest}
 use borrow.Author.Needs.{needs}
 use Rattle.places.proofs.vacant_place.Statement.{statement}
 use Rattle.places.proofs.vacant_place.Tie as tie
@@ -20,6 +20,12 @@ add-loop c = search needs
 eight-live-requires : tie.Need-eight-live-requires Inv-loop μ-loop
 eight-live-requires c κs = search needs
 
+add-eight-live : tie.Need-add-eight-live Inv-loop μ-loop
+add-eight-live c = search needs
+
+eight-live-requires-2 : tie.Need-eight-live-requires-2 Inv-loop μ-loop
+eight-live-requires-2 c κs = search needs
+
 vacant-from-requires : tie.Need-vacant-from-requires Inv-loop μ-loop
 vacant-from-requires c κs = search needs
 
@@ -33,7 +39,7 @@ loop-less : tie.Need-loop-less Inv-loop μ-loop
 loop-less c = search needs
 
 loop-again : tie.Need-loop-again Inv-loop μ-loop
-loop-again c = (search by-eight, search needs)
+loop-again c = (search by-sixteen, search needs)
 
 vacant-from-requires-2 : tie.Need-vacant-from-requires-2 Inv-loop μ-loop
 vacant-from-requires-2 c κs = search needs
@@ -50,6 +56,8 @@ vacant-place-spec =
     loop-holds
     add-loop
     eight-live-requires
+    add-eight-live
+    eight-live-requires-2
     vacant-from-requires
     returns
     add-p

@@ -4,9 +4,6 @@ use borrow.Author.Needs.{needs}
 use Rattle.reading.proofs.hit_word.Statement.{statement}
 use Rattle.reading.proofs.hit_word.Tie as tie
 
-sum-with-tag-requires : tie.Need-sum-with-tag-requires
-sum-with-tag-requires c κs = search needs
-
 returns : tie.Need-returns
 returns c = search by-no-tag
 
@@ -35,7 +32,6 @@ pub hit-word-spec : {M : Type 1} → statement M
 hit-word-spec =
     tie.close
     (tie.spec
-    sum-with-tag-requires
     returns
     cast-get64
     mul-get64

@@ -28,6 +28,9 @@ any-damaged-requires c κs = search needs
 returns-2 : tie.Need-returns-2
 returns-2 c = search look-hurt
 
+sum-with-tag-requires : tie.Need-sum-with-tag-requires
+sum-with-tag-requires c κs = search needs
+
 hit-word-requires : tie.Need-hit-word-requires
 hit-word-requires c κs = search needs
 
@@ -48,6 +51,7 @@ look-up-spec =
     cast-m
     any-damaged-requires
     returns-2
+    sum-with-tag-requires
     hit-word-requires
     returns-3
     returns-4)

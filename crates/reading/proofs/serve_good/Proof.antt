@@ -35,6 +35,9 @@ same-length-2 c = search needs
 returns-2 : tie.Need-returns-2
 returns-2 c = search serve-hurt
 
+sum-with-tag-requires : tie.Need-sum-with-tag-requires
+sum-with-tag-requires c κs = search needs
+
 hit-word-requires : tie.Need-hit-word-requires
 hit-word-requires c κs = search needs
 
@@ -69,9 +72,9 @@ same-length-4 : tie.Need-same-length-4
 same-length-4 c = search needs
 
 returns-4 : tie.Need-returns-4
-returns-4 c = let s = c .before .before .before .before .before .before .before .before .before .before .before .before .before .before .before .before .before .before .before .before .before .before in
-    serve-held (mem (s .args .slots .now) (s .args .counters .now) (s .args .items .now)) (s .args .animal) (s .args .limit) (s .args .minute) (s .pre) (c .before .before .before .before .before .before .before .before .before .before .before .before .before .before .before .before .before .homes-in .ensures) (c .before .before .before .before .before .before .before .before .before .before .before .before .before .before .before .before .is-odd .ensures)
-    (c .before .before .before .before .before .before .before .before .before .before .before .before .before .before .before .if1 .left) (c .before .before .before .before .before .before .before .before .before .before .before .before .before .before .home-words-of .ensures) refl (c .before .before .before .before .before .before .before .before .before .before .before .before .before .any-damaged .ensures) (c .before .before .before .before .before .before .before .before .before .before .before .before .if2 .left) (c .before .before .before .before .before .before .before .before .before .before .hit-word .ensures)
+returns-4 c = let s = c .before .before .before .before .before .before .before .before .before .before .before .before .before .before .before .before .before .before .before .before .before .before .before in
+    serve-held (mem (s .args .slots .now) (s .args .counters .now) (s .args .items .now)) (s .args .animal) (s .args .limit) (s .args .minute) (s .pre) (c .before .before .before .before .before .before .before .before .before .before .before .before .before .before .before .before .before .before .homes-in .ensures) (c .before .before .before .before .before .before .before .before .before .before .before .before .before .before .before .before .before .is-odd .ensures)
+    (c .before .before .before .before .before .before .before .before .before .before .before .before .before .before .before .before .if1 .left) (c .before .before .before .before .before .before .before .before .before .before .before .before .before .before .before .home-words-of .ensures) refl (c .before .before .before .before .before .before .before .before .before .before .before .before .before .before .any-damaged .ensures) (c .before .before .before .before .before .before .before .before .before .before .before .before .before .if2 .left) (c .before .before .before .before .before .before .before .before .before .before .hit-word .ensures)
     (c .before .before .before .before .before .before .before .before .before .if3 .left) (c .before .before .before .before .before .before .before .judged-at .result) (c .before .before .before .before .before .before .before .judged-at .ensures) (c .before .before .before .before .before .get64 .ensures) (c .before .before .before .is-in-time .ensures)
     (c .before .before .mark-recent .ensures)
 
@@ -88,6 +91,7 @@ serve-good-spec =
     any-damaged-requires
     same-length-2
     returns-2
+    sum-with-tag-requires
     hit-word-requires
     same-length-3
     returns-3
