@@ -92,33 +92,32 @@ same-word F g (j ∷ is) i e =
         go (missing h) e = let z : _≡_ {A = ℕ} 0 1 = cc in absurd (omega arith)
 
 -- delete
-module _ (m : Mem) (x : ℕ) {n : ℕ} (e : n ≡ early (right-lengths 4 4 sizes m) x false) where
-  abbrev delete-rest : Outcome
-  delete-rest = delete-at (Y4 m) m x (hit (Y4 m) m x)
+abbrev delete-rest : Mem → ℕ → Outcome
+delete-rest m x = delete-at (Y4 m) m x (hit (Y4 m) m x)
 
-  pub delete-early : {k : ℕ} → n ≢ 0 → CutAs m (delete x) k m (refused n)
-  delete-early nz = cut-refuse (early-outcome (right-lengths 4 4 sizes m) false x n e nz m delete-rest)
+pub delete-early : (m : Mem) (x : ℕ) {n k : ℕ} → n ≡ early (right-lengths 4 4 sizes m) x false → n ≢ 0 → CutAs m (delete x) k m (refused n)
+delete-early m x {n} e nz = cut-refuse (early-outcome (right-lengths 4 4 sizes m) false x n e nz m (delete-rest m x))
 
-  module _ (z : n ≡ 0) {r : Looked} (l : LooksUp m x r) where
-    passed-it : Passed m x false
-    passed-it = early-passed m x false refl e z
+pub delete-passed : (m : Mem) (x : ℕ) {n : ℕ} → n ≡ early (right-lengths 4 4 sizes m) x false → n ≡ 0 → Passed m x false
+delete-passed m x e z = early-passed m x false refl e z
 
-    pub delete-refused : {j k : ℕ} → r .look ≡ look.Refused j → CutAs m (delete x) k m (refused j)
-    delete-refused q = cut-refuse (look-refused m x false delete-rest passed-it l q)
+module _ (m : Mem) (x : ℕ) {r : Looked} (asked : Passed m x false × LooksUp m x r) where
+  pub delete-refused : {j k : ℕ} → r .look ≡ look.Refused j → CutAs m (delete x) k m (refused j)
+  delete-refused q = cut-refuse (look-refused m x false (delete-rest m x) (asked .0) (asked .1) q)
 
-    pub delete-absent : {k : ℕ} → r .look ≡ look.Absent → CutAs m (delete x) k m (refused 7)
-    delete-absent q =
-        let s = look-lacks m x false delete-rest passed-it l q in
-        cut-refuse (s .0 ∙ ap (delete-at (Y4 m) m x) (no-place (hit (Y4 m) m x) (s .1)))
-      where
-        no-place : (o : Option ℕ) → place-at (Y4 m) m o ≡ none → o ≡ none
-        no-place none q = refl
-        no-place (some i) q = let z : _≡_ {A = ℕ} 0 1 = cc in absurd (omega arith)
+  pub delete-absent : {k : ℕ} → r .look ≡ look.Absent → CutAs m (delete x) k m (refused 7)
+  delete-absent q =
+      let s = look-lacks m x false (delete-rest m x) (asked .0) (asked .1) q in
+      cut-refuse (s .0 ∙ ap (delete-at (Y4 m) m x) (no-place (hit (Y4 m) m x) (s .1)))
+    where
+      no-place : (o : Option ℕ) → place-at (Y4 m) m o ≡ none → o ≡ none
+      no-place none q = refl
+      no-place (some i) q = let z : _≡_ {A = ℕ} 0 1 = cc in absurd (omega arith)
 
-    pub delete-found : {w : ℕ} → r .look ≡ look.At w → Hit m x (r .homes) w
-    delete-found q =
-        let s = look-holds m x false delete-rest passed-it l q in
-        record { passed = passed-it; homes-are = l .homes-are; calm = s .0; real = s .2; word-is = s .3 }
+  pub delete-found : {w : ℕ} → r .look ≡ look.At w → Hit m x (r .homes) w
+  delete-found q =
+      let s = look-holds m x false (delete-rest m x) (asked .0) (asked .1) q in
+      record { passed = asked .0; homes-are = asked .1 .homes-are; calm = s .0; real = s .2; word-is = s .3 }
 
 module _ (m : Mem) (x : ℕ) {h : Homes} {w : ℕ} (g : Hit m x h w) where
   -- the hit is a slot with that word

@@ -1,16 +1,19 @@
 // Fresh and delete, whole and cut.
 ghost use mathlib.Core.Path.{_≡_};
 ghost use mathlib.Core.List.{List};
+ghost use mathlib.Core.Bool.{false};
 ghost use Prim.Native.Nat.{ℕ};
 ghost use lib.ListN.{length, replicate};
 ghost use Rattle.model.specs.Memory.{mem};
 ghost use Rattle.model.specs.Answers.{delete};
 ghost use Rattle.model.specs.Said.{said-starting, said-deleting};
+ghost use Rattle.reading.specs.Look.{LooksUp, Passed};
 ghost use Rattle.writing.specs.Wrote.{FreshAs, CutAs, WholeAs, Hit};
 use hashing::Homes;
 use model::Deleting;
 use model::Starting;
 use reading::Look;
+use reading::Looked;
 use reading::Slot;
 
 // Zero in every word of a run.
@@ -79,6 +82,28 @@ fn delete_hit(
     Deleting::Deleted
 }
 
+// What was looked up decides. Requires no early refusal to be due: the caller has looked.
+fn delete_looked(
+    slots: &mut [u32],
+    counters: &mut [u32],
+    items: &mut [u64],
+    animal: u64,
+    looked: Looked,
+    k: u64,
+) -> Deleting
+    requires { ⌜ Passed (mem (now slots) (now counters) (now items)) animal false × LooksUp (mem (now slots) (now counters) (now items)) animal looked ⌝ }
+    ensures { λ r. ⌜ CutAs (mem (now (slots .entry)) (now (counters .entry)) (now (items .entry))) (delete animal) k
+        (mem (now (slots .exit)) (now (counters .exit)) (now (items .exit))) (said-deleting r) ⌝ }
+{
+    let look = looked.look;
+    let homes = looked.homes;
+    match look {
+        Look::Refused(n) => Deleting::Refused(n),
+        Look::Absent => Deleting::Refused(7),
+        Look::At(w) => delete_hit(slots, counters, items, animal, homes, w, k),
+    }
+}
+
 // Delete, of which only the first k stores are made.
 pub fn delete_cut(
     slots: &mut [u32],
@@ -95,18 +120,18 @@ pub fn delete_cut(
         return Deleting::Refused(no);
     }
     let looked = reading::look_up(slots, counters, items, animal);
-    let look = looked.look;
-    let homes = looked.homes;
-    match look {
-        Look::Refused(n) => Deleting::Refused(n),
-        Look::Absent => Deleting::Refused(7),
-        Look::At(w) => delete_hit(slots, counters, items, animal, homes, w, k),
-    }
+    delete_looked(slots, counters, items, animal, looked, k)
 }
 
+// Not by way of the cut form: each function that two others call is a call more in the cabinet.
 pub fn delete(slots: &mut [u32], counters: &mut [u32], items: &mut [u64], animal: u64) -> Deleting
     ensures { λ r. ⌜ WholeAs (mem (now (slots .entry)) (now (counters .entry)) (now (items .entry))) (delete animal)
         (mem (now (slots .exit)) (now (counters .exit)) (now (items .exit))) (said-deleting r) ⌝ }
 {
-    delete_cut(slots, counters, items, animal, 18446744073709551615)
+    let no = reading::refused_early(slots.len(), counters.len(), items.len(), animal, false);
+    if no != 0 {
+        return Deleting::Refused(no);
+    }
+    let looked = reading::look_up(slots, counters, items, animal);
+    delete_looked(slots, counters, items, animal, looked, 18446744073709551615)
 }

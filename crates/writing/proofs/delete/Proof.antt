@@ -1,11 +1,21 @@
--- `writing::delete` meets its contract. Assumes nothing.
-use Rattle.writing.proofs.Laws.{whole-delete}
+-- `writing::delete` meets its contract: a cut behind the last store. Assumes nothing.
+use Rattle.reading.proofs.Looking.{find-passed}
+use Rattle.writing.proofs.Laws.{delete-early, delete-passed, whole-delete}
 use borrow.Author.Needs.{needs}
 use Rattle.writing.proofs.delete.Statement.{statement}
 use Rattle.writing.proofs.delete.Tie as tie
 
-delete-cut-requires : tie.Need-delete-cut-requires
-delete-cut-requires c κs = search needs
+refused-early-requires : tie.Need-refused-early-requires
+refused-early-requires c κs = search needs
+
+returns : tie.Need-returns
+returns c = whole-delete (search delete-early)
+
+look-up-requires : tie.Need-look-up-requires
+look-up-requires c κs = search find-passed
+
+delete-looked-requires : tie.Need-delete-looked-requires
+delete-looked-requires c κs = (search delete-passed, search needs)
 
 same-length : tie.Need-same-length
 same-length c = search needs
@@ -16,9 +26,18 @@ same-length-2 c = search needs
 same-length-3 : tie.Need-same-length-3
 same-length-3 c = search needs
 
-returns : tie.Need-returns
-returns c = search whole-delete
+returns-2 : tie.Need-returns-2
+returns-2 c = search whole-delete
 
 pub delete-spec : {M : Type 1} → statement M
 delete-spec =
-    tie.close (tie.spec delete-cut-requires same-length same-length-2 same-length-3 returns)
+    tie.close
+    (tie.spec
+    refused-early-requires
+    returns
+    look-up-requires
+    delete-looked-requires
+    same-length
+    same-length-2
+    same-length-3
+    returns-2)
