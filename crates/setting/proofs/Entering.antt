@@ -27,7 +27,7 @@ use Rattle.model.specs.Age.{stamp-of, standing}
 use Rattle.model.specs.Calls.{Outcome, busy, enter-at, enter-block, enter-blocks, final-slot, held, hurt, move-blocks, planned, refuse}
 use Rattle.model.specs.Calls.{set-at, stopped, vacant-place, visited, wounded}
 use Rattle.model.specs.Lent.{lent-call}
-use Rattle.writing.proofs.Laws.{Few, cut-made, cut-refuse, few-or, few-refuse, whole-cut}
+use Rattle.writing.proofs.Laws.{Few, cut-refuse, few-or, few-refuse, whole-cut}
 use Rattle.storing.proofs.Laws.{made-append}
 use Rattle.model.proofs.Hash.{size-most}
 use Rattle.reading.proofs.Asked.{Y4, early-outcome, early-passed}
@@ -37,7 +37,7 @@ use Rattle.reading.proofs.Looking.{look-holds, look-lacks, look-refused}
 use Rattle.searching.proofs.Laws.{RoomFound, damaged-found, nowhere-found, room-found, room-inside}
 use Rattle.model.proofs.Search.{length-climb}
 use Rattle.model.proofs.Lent.{fit, four-sizes, law}
-use Rattle.setting.specs.Enter.{Does, Homed, MovesIn, Searched, entering, entering-new, plain-moves}
+use Rattle.setting.specs.Enter.{Does, Homed, MovesIn, Searched, entering, entering-new, plain-moves, updating}
 use Rattle.searching.specs.declared.Move.{Move as Tagged}
 use Rattle.searching.specs.declared.Found.{Found}
 use Rattle.searching.specs.declared.Ending.the-variants as ending
@@ -189,6 +189,12 @@ module _ (m : Mem) (x v s : ℕ) {h : Homes} {p : ℕ} {r : Found} (g : Searched
             (subst (λ t. Made (stores-of (enter (h .counter) place (r .slot) (t * 65536 + place) x v s)) l (mem T₁ k₁ (m .items)) m′ l′)
             (g .homed .homes-are .tag-is) entry)))
 
+-- the update of a held animal
+pub update-made : (c w v t : ℕ) {k l : ℕ} {m m′ : Mem} → Made (stores-of (update c (w % 65536) v t)) k m m′ l → Does (updating c w v t) k m m′ (stored 0 0)
+unfolding stores place
+update-made c w v t {l = l} d =
+    does-made {l = l} (stored 0 0) (update c (w % 65536) v t ∷ []) refl (rw (append-nil (stores-of (update c (w % 65536) v t))) d)
+
 -- the vacant place
 module _ (m : Mem) (x v s : ℕ) {h : Homes} (g : Homed m x h) (y : Vacancy) (e : vacancy y ≡ vacant-place (length (m .items) / 4) (m .items)) where
   pub new-full : y ≡ vacancies.Full → {k : ℕ} → Does (entering-new m x v s) k m m (refused 5)
@@ -230,27 +236,27 @@ module _ (m : Mem) (x v now : ℕ) (standing? : Bool) {n : ℕ} (e : n ≡ early
       pub set-refused : {j k : ℕ} → r .look ≡ look.Refused j → CutAs m the-set k m (refused j)
       set-refused q = cut-refuse (look-refused m x (eqb now standing) set-rest set-passed l q)
 
+      does-set : {o : Outcome} → lent-call 4 4 sizes m the-set ≡ o → {k : ℕ} {m′ : Mem} (a : Setting) → Does o k m m′ (said-setting a)
+          → CutAs m the-set k m′ (said-setting a)
+      does-set e {k} a d =
+          record { told = d .told ∙ sym (ap (λ (o : Outcome). o .answer) e); left = d .left ∙ sym (ap (λ (o : Outcome). cut-stores k (o .blocks) m) e) }
+
       pub set-homed : Homed m x (r .homes)
       set-homed = record { right = set-lengths; homes-are = l .homes-are }
 
       pub set-new : {t : ℕ} → t ≡ stamp-of now standing? → r .look ≡ look.Absent → {k : ℕ} {m′ : Mem} (a : Setting)
           → Does (entering-new m x v t) k m m′ (said-setting a) → CutAs m the-set k m′ (said-setting a)
-      set-new {t} et q {k} {m′} a d =
+      set-new {t} et q a d =
           let f = look-lacks m x (eqb now standing) set-rest set-passed l q in
-          let o : lent-call 4 4 sizes m the-set ≡ entering-new m x v t
-          = f .0 ∙ ap (set-at (Y4 m) m x v (stamp-of now standing?)) (f .1) ∙ ap (λ t. entering-new m x v t) (sym et) in
-          record { told = d .told ∙ sym (ap (λ (o : Outcome). o .answer) o); left = d .left ∙ sym (ap (λ (o : Outcome). cut-stores k (o .blocks) m) o) }
+          does-set (f .0 ∙ ap (set-at (Y4 m) m x v (stamp-of now standing?)) (f .1) ∙ ap (λ t. entering-new m x v t) (sym et)) a d
 
-      pub set-update : {t : ℕ} → t ≡ stamp-of now standing? → {w : ℕ} → r .look ≡ look.At w → {k l′ : ℕ} {k₁ i₁ : List ℕ}
-          → ((u : List ℕ) → Made (stores-of (update (r .homes .counter) (w % 65536) v t)) k (mem u (m .counters) (m .items)) (mem u k₁ i₁) l′)
-          → CutAs m the-set k (mem (m .slots) k₁ i₁) (stored 0 0)
-      unfolding stores place
-      set-update {t} et {w} q {k} {l′} {k₁} {i₁} d =
+      pub set-update : {t : ℕ} → t ≡ stamp-of now standing? → {w : ℕ} → r .look ≡ look.At w → {k : ℕ} {k₁ i₁ : List ℕ} (a : Setting)
+          → ((u : List ℕ) → Does (updating (r .homes .counter) w v t) k (mem u (m .counters) (m .items)) (mem u k₁ i₁) (said-setting a))
+          → CutAs m the-set k (mem (m .slots) k₁ i₁) (said-setting a)
+      set-update {t} et {w} q {k} a d =
           let f = look-holds m x (eqb now standing) set-rest set-passed l q in
-          cut-made {l = l′} (stored 0 0) (update (r .homes .counter) (w % 65536) v t ∷ [])
-          (f .0 ∙ ap (set-at (Y4 m) m x v (stamp-of now standing?)) (f .1)
-          ∙ ap₂ (λ (c t : ℕ). record { answer = stored 0 0; blocks = update c (w % 65536) v t ∷ [] }) (sym (l .homes-are .counter-is)) (sym et))
-          (rw (append-nil (stores-of (update (r .homes .counter) (w % 65536) v t))) (d (m .slots)))
+          does-set (f .0 ∙ ap (set-at (Y4 m) m x v (stamp-of now standing?)) (f .1)
+          ∙ ap₂ (λ (c t : ℕ). updating c w v t) (sym (l .homes-are .counter-is)) (sym et)) a (d (m .slots))
 
 -- a set makes at most 23 stores: four moves of four, and seven of the new entry
 move-stores : (Y : Yard) (T : List ℕ) (vs : List Move) → length (stores (move-blocks Y T vs)) ≡ 4 * length vs

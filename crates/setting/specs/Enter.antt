@@ -7,12 +7,12 @@ use mathlib.Core.List.{List, [], _∷_}
 use lib.ListN.{length, getD}
 use Rattle.searching.specs.Search.{FoundIs}
 use Rattle.reading.specs.Look.{HomesIn}
-use Rattle.model.specs.Memory.{Mem}
+use Rattle.model.specs.Memory.{Mem, place}
 use Rattle.model.specs.Hash.{Size}
 use Rattle.model.specs.Yard.{right-lengths, sizes, yard-of}
-use Rattle.model.specs.Stores.{cut-stores}
+use Rattle.model.specs.Stores.{cut-stores, update}
 use Rattle.model.specs.Moves.{Move}
-use Rattle.model.specs.Answers.{Answer}
+use Rattle.model.specs.Answers.{Answer, stored}
 use Rattle.model.specs.Calls.{Outcome, enter-at, vacant-place}
 use Rattle.searching.specs.declared.Move.{Move as Tagged}
 use Rattle.searching.specs.declared.Found.{Found}
@@ -49,6 +49,10 @@ entering m x v s o = enter-at (yard-of 4 4 sizes m) m x v s o
 
 abbrev pub entering-new : Mem → ℕ → ℕ → ℕ → Outcome
 entering-new m x v s = entering m x v s (vacant-place (length (m .items) / 4) (m .items))
+
+-- set of a held animal: its counter, the word of its hit, the new permission and stamp
+abbrev pub updating : ℕ → ℕ → ℕ → ℕ → Outcome
+updating c w v s = record { answer = stored 0 0; blocks = update c (place w) v s ∷ [] }
 
 -- the lengths are a table's, and the four numbers are those of animal x
 pub record Homed (m : Mem) (x : ℕ) (h : Homes) : Type 0 where

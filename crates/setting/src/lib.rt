@@ -14,7 +14,7 @@ ghost use Rattle.model.specs.Calls.{move-block, move-blocks};
 ghost use Rattle.model.specs.Said.{said-setting};
 ghost use Rattle.storing.specs.Made.{Made};
 ghost use Rattle.writing.specs.Wrote.{CutAs, WholeAs};
-ghost use Rattle.setting.specs.Enter.{Movable, MovesIn, plain-moves, Does, entering, entering-new, Homed, Searched};
+ghost use Rattle.setting.specs.Enter.{Movable, MovesIn, plain-moves, Does, entering, entering-new, Homed, Searched, updating};
 use hashing::Homes;
 use model::Setting;
 use places::Vacancy;
@@ -179,6 +179,27 @@ fn stamp_for(minute: u64, standing: bool) -> u64
     minute
 }
 
+// The update of a held animal: no bucket is visited and nothing is moved.
+fn update_held(
+    counters: &mut [u32],
+    items: &mut [u64],
+    homes: Homes,
+    w: u32,
+    permission: u32,
+    stamp: u64,
+    k: u64,
+) -> Setting
+    ensures { λ r. ⌜ ((s : List ℕ) → Does (updating (homes .counter) w permission stamp) k (mem s (now (counters .entry)) (now (items .entry)))
+        (mem s (now (counters .exit)) (now (items .exit))) (said-setting r)) ⌝ }
+{
+    let c = homes.counter as usize;
+    storing::update_entry(counters, items, c, w % 65536, permission, stamp, k);
+    Setting::Stored {
+        visits: 0,
+        moves: 0,
+    }
+}
+
 // Set, of which only the first k stores are made.
 pub fn set_cut(
     slots: &mut [u32],
@@ -205,24 +226,11 @@ pub fn set_cut(
     match look {
         Look::Refused(n) => Setting::Refused(n),
         Look::Absent => enter_new(slots, counters, items, animal, permission, stamp, homes, k),
-        Look::At(w) => {
-            storing::update_entry(
-                counters,
-                items,
-                homes.counter as usize,
-                w % 65536,
-                permission,
-                stamp,
-                k,
-            );
-            Setting::Stored {
-                visits: 0,
-                moves: 0,
-            }
-        }
+        Look::At(w) => update_held(counters, items, homes, w, permission, stamp, k),
     }
 }
 
+// Not by way of the cut form, so that an update is one piece of code that counts no stores: it takes half the time.
 pub fn set(
     slots: &mut [u32],
     counters: &mut [u32],
@@ -235,14 +243,19 @@ pub fn set(
     ensures { λ r. ⌜ WholeAs (mem (now (slots .entry)) (now (counters .entry)) (now (items .entry))) (set-animal animal permission minute standing)
         (mem (now (slots .exit)) (now (counters .exit)) (now (items .exit))) (said-setting r) ⌝ }
 {
-    set_cut(
-        slots,
-        counters,
-        items,
-        animal,
-        permission,
-        minute,
-        standing,
-        18446744073709551615,
-    )
+    let k = 18446744073709551615;
+    let late = minute == 18446744073709551615;
+    let no = reading::refused_early(slots.len(), counters.len(), items.len(), animal, late);
+    if no != 0 {
+        return Setting::Refused(no);
+    }
+    let stamp = stamp_for(minute, standing);
+    let looked = reading::look_up(slots, counters, items, animal);
+    let look = looked.look;
+    let homes = looked.homes;
+    match look {
+        Look::Refused(n) => Setting::Refused(n),
+        Look::Absent => enter_new(slots, counters, items, animal, permission, stamp, homes, k),
+        Look::At(w) => update_held(counters, items, homes, w, permission, stamp, k),
+    }
 }

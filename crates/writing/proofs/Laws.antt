@@ -49,7 +49,7 @@ cut-refuse {m} {c} {k} {n} e =
     }
 
 -- a call whose blocks were made under the budget k
-pub cut-made : {m m′ : Mem} {c : Call} {k l : ℕ} (a : Answer) (bs : List Block)
+cut-made : {m m′ : Mem} {c : Call} {k l : ℕ} (a : Answer) (bs : List Block)
     → lent-call 4 4 sizes m c ≡ record { answer = a; blocks = bs } → Made (stores bs) k m m′ l → CutAs m c k m′ a
 cut-made {m} {m′} {c} {k} a bs e d =
     record { told = sym (ap (λ (o : Outcome). o .answer) e); left = d .after ∙ sym (ap (λ (o : Outcome). cut-stores k (o .blocks) m) e) }

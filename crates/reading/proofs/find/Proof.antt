@@ -29,9 +29,11 @@ cast-m : tie.Need-cast-m
 cast-m c =
     let s = c .before .before .before .before .before .before .before .before .before in
     record {
-      fits = omega (arith,
-          small (mem (s .args .slots .now) (s .args .counters .now) (s .args .items .now))
-          (find-passed (mem (s .args .slots .now) (s .args .counters .now) (s .args .items .now)) (s .args .animal) (c .before .before .before .before .before .refused-early .ensures) (c .before .before .before .before .if1 .left)) .places-small);
+      fits = omega (
+        arith,
+        small (mem (s .args .slots .now) (s .args .counters .now) (s .args .items .now))
+            (find-passed (mem (s .args .slots .now) (s .args .counters .now) (s .args .items .now)) (s .args .animal) (c .before .before .before .before .before .refused-early .ensures) (c .before .before .before .before .if1 .left)) .places-small,
+      );
     }
 
 any-damaged-requires : tie.Need-any-damaged-requires

@@ -1,5 +1,4 @@
 -- `setting::set_cut` meets its contract: one law a way out. Assumes nothing.
-use Rattle.model.specs.Memory.{mem}
 use Rattle.setting.proofs.Entering.{set-early, set-lengths, set-refused, set-homed, set-new, set-update}
 use borrow.Author.Needs.{needs}
 use Rattle.setting.proofs.set_cut.Statement.{statement}
@@ -29,11 +28,8 @@ enter-new-requires c κs = search set-homed
 enum-known-look-2 : tie.Need-enum-known-look-2
 enum-known-look-2 c = search needs
 
-cast-update-entry : tie.Need-cast-update-entry
-cast-update-entry c = search needs
-
-update-entry-requires : tie.Need-update-entry-requires
-update-entry-requires c κs = search needs
+update-held-requires : tie.Need-update-held-requires
+update-held-requires c κs = search needs
 
 same-length : tie.Need-same-length
 same-length c = search needs
@@ -69,9 +65,7 @@ same-length-9 : tie.Need-same-length-9
 same-length-9 c = search needs
 
 returns-4 : tie.Need-returns-4
-returns-4 c = let s = c .before .before .before .before .before .before .before .before .before .before .before .before .before .before .before .before .before .before .before .before .before .before in
-    set-update (mem (s .args .slots .now) (s .args .counters .now) (s .args .items .now)) (s .args .animal) (s .args .permission) (s .args .minute) (s .args .standing) (c .before .before .before .before .before .before .before .before .before .before .before .before .before .before .before .before .before .before .refused-early .ensures) (c .before .before .before .before .before .before .before .before .before .before .before .before .before .before .before .before .before .if1 .left)
-    (c .before .before .before .before .before .before .before .before .before .before .before .before .look-up .ensures) (c .before .before .before .before .before .before .before .before .before .before .before .before .before .before .before .before .stamp-for .ensures) (c .before .before .before .before .before .before .before .before .before .look2 .given .1) (c .before .before .before .before .update-entry .ensures)
+returns-4 c = search set-update
 
 pub set-cut-spec : {M : Type 1} → statement M
 set-cut-spec =
@@ -85,8 +79,7 @@ set-cut-spec =
     enum-told
     enter-new-requires
     enum-known-look-2
-    cast-update-entry
-    update-entry-requires
+    update-held-requires
     same-length
     same-length-2
     same-length-3
