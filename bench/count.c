@@ -3,57 +3,38 @@
  * the instructions. Run by bench/run where valgrind is installed.
  */
 #include "anchor.h"
+#include "herd.h"
 
 #include <stdio.h>
 #include <string.h>
 
-#define N 1024
-#define V 1024
-#define M 4096
-#define HERD 3686
 #define CALLS 2000
 
-typedef struct {
-    uint32_t slots[4 * N], counters[V];
-    uint64_t items[4 * M];
-    uint8_t buffer[20 * M];
-} Table;
-
 static Table ours, theirs;
-static uint64_t held[HERD], state = 7, sum;
-
-static uint64_t any(void) { /* splitmix64 */
-    uint64_t z = (state += UINT64_C(0x9e3779b97f4a7c15));
-    z = (z ^ (z >> 30)) * UINT64_C(0xbf58476d1ce4e5b9);
-    z = (z ^ (z >> 27)) * UINT64_C(0x94d049bb133111eb);
-    return z ^ (z >> 31);
-}
-
-#define TABLE t->slots, 4 * N, t->counters, V, t->items, 4 * M
 
 /* Not inlined, so that callgrind tells each kind of work by its name. */
 #define WORK __attribute__((noinline)) static void
 #define WORKS(who)                                                                                                    \
     WORK who##_reads(Table *t) {                                                                                      \
-        for (size_t i = 0; i < CALLS; i++) sum += who##_read(TABLE, i % 10 ? held[i] : i + 1, 720, 100000).kind;      \
+        for (size_t i = 0; i < CALLS; i++) t->sum += who##_read(TABLE, i % 10 ? held[i] : i + 1, LIMIT, NOW).kind;    \
     }                                                                                                                 \
     WORK who##_serves(Table *t) {                                                                                     \
-        for (size_t i = 0; i < CALLS; i++) sum += who##_serve(TABLE, i % 10 ? held[i] : i + 1, 720, 100000).kind;     \
+        for (size_t i = 0; i < CALLS; i++) t->sum += who##_serve(TABLE, i % 10 ? held[i] : i + 1, LIMIT, NOW).kind;   \
     }                                                                                                                 \
     WORK who##_updates(Table *t) {                                                                                    \
-        for (size_t i = 0; i < CALLS; i++) sum += who##_set(TABLE, held[i], 1, 100000, 0).refusal;                    \
+        for (size_t i = 0; i < CALLS; i++) t->sum += who##_set(TABLE, held[i], 1, NOW, 0).refusal;                    \
     }                                                                                                                 \
     WORK who##_deletes(Table *t) {                                                                                    \
-        for (size_t i = 0; i < CALLS; i++) sum += who##_delete(TABLE, held[i]);                                       \
+        for (size_t i = 0; i < CALLS; i++) t->sum += who##_delete(TABLE, held[i]);                                    \
     }                                                                                                                 \
     WORK who##_new(Table *t) { /* into the places that the deletes left, each the lowest vacant one */                \
-        for (size_t i = 0; i < CALLS; i++) sum += who##_set(TABLE, held[i], 1, 100000, 0).visits;                     \
+        for (size_t i = 0; i < CALLS; i++) t->sum += who##_set(TABLE, held[i], 1, NOW, 0).visits;                     \
     }                                                                                                                 \
     WORK who##_evicts(Table *t) {                                                                                     \
         size_t hand = 0;                                                                                              \
         for (size_t i = 0; i < CALLS; i++) {                                                                          \
             BoughladderEvicting e = who##_evict(TABLE, hand);                                                         \
-            sum += e.looked;                                                                                          \
+            t->sum += e.looked;                                                                                       \
             hand = e.hand;                                                                                            \
         }                                                                                                             \
     }
@@ -62,9 +43,9 @@ WORKS(anchor)
 
 int main(void) {
     Table *t = &ours;
-    for (size_t herd = 0; herd < HERD;) {
+    while (herd < M * 9 / 10) {
         uint64_t animal = any();
-        if (boughladder_set(TABLE, animal, 1, 100000 - any() % 1000, 0).refusal == 0) held[herd++] = animal;
+        if (boughladder_set(TABLE, animal, 1, NOW - any() % 1000, 0).refusal == 0) held[herd++] = animal;
     }
     memcpy(&theirs, &ours, sizeof ours);
     boughladder_reads(&ours), anchor_reads(&theirs);
@@ -78,5 +59,5 @@ int main(void) {
         puts("DIFFERENCE between the tables");
         return 1;
     }
-    return sum == 0;
+    return ours.sum == 0;
 }

@@ -5,68 +5,33 @@
  * answers of both are summed up and must be equal at the end, and so must all words. Use: speed [rounds].
  */
 #include "anchor.h"
+#include "herd.h"
 
 #include <inttypes.h>
 #include <stdio.h>
 #include <stdlib.h>
 #include <string.h>
-#include <time.h>
 
-#define N 1024
-#define V 1024
-#define M 4096
-#define READS 20000
 #define BATCH 32
-#define NOW 100000
-#define LIMIT 720
-
-typedef struct {
-    uint32_t slots[4 * N], counters[V];
-    uint64_t items[4 * M];
-    uint8_t buffer[20 * M];
-    uint64_t sum; /* of all answers */
-    size_t hand;
-} Table;
 
 static Table ours, theirs, before;
-static uint64_t held[M], absent[M], asked[READS], state = 7;
-static size_t herd;
+static uint64_t absent[M];
 static int rounds = 150;
-
-static uint64_t any(void) { /* splitmix64 */
-    uint64_t z = (state += UINT64_C(0x9e3779b97f4a7c15));
-    z = (z ^ (z >> 30)) * UINT64_C(0xbf58476d1ce4e5b9);
-    z = (z ^ (z >> 27)) * UINT64_C(0x94d049bb133111eb);
-    return z ^ (z >> 31);
-}
-
-static double now_ns(void) {
-    struct timespec t;
-    clock_gettime(CLOCK_MONOTONIC, &t);
-    return 1e9 * (double)t.tv_sec + (double)t.tv_nsec;
-}
-
-#define TABLE t->slots, 4 * N, t->counters, V, t->items, 4 * M
 
 /* The portions of work, once for each table: the calls are direct ones, as a user would write them. Each gives the time of
    the calls that it is about. */
+#define ASKS(who, works, call)                                                                              \
+    static double who##_##works(Table *t) {                                                                 \
+        double start = now_ns();                                                                            \
+        for (size_t i = 0; i < READS; i++) {                                                                \
+            BoughladderReading r = who##_##call(TABLE, asked[i], LIMIT, NOW);                               \
+            t->sum += r.kind + r.permission + r.age + r.refusal;                                            \
+        }                                                                                                   \
+        return (now_ns() - start) / READS;                                                                  \
+    }
 #define WORKS(who)                                                                                          \
-    static double who##_reads(Table *t) {                                                                   \
-        double start = now_ns();                                                                            \
-        for (size_t i = 0; i < READS; i++) {                                                                \
-            BoughladderReading r = who##_read(TABLE, asked[i], LIMIT, NOW);                                 \
-            t->sum += r.kind + r.permission + r.age + r.refusal;                                            \
-        }                                                                                                   \
-        return (now_ns() - start) / READS;                                                                  \
-    }                                                                                                       \
-    static double who##_serves(Table *t) {                                                                  \
-        double start = now_ns();                                                                            \
-        for (size_t i = 0; i < READS; i++) {                                                                \
-            BoughladderReading r = who##_serve(TABLE, asked[i], LIMIT, NOW);                                \
-            t->sum += r.kind + r.permission + r.age + r.refusal;                                            \
-        }                                                                                                   \
-        return (now_ns() - start) / READS;                                                                  \
-    }                                                                                                       \
+    ASKS(who, reads, read)                                                                                  \
+    ASKS(who, serves, serve)                                                                                \
     static double who##_updates(Table *t) {                                                                 \
         double start = now_ns();                                                                            \
         for (size_t i = 0; i < herd; i++) {                                                                 \
@@ -119,15 +84,10 @@ WORKS(anchor)
 
 /* Fills both tables up to a load in percent with a herd of scattered numbers, and picks the animals that are asked for. */
 static void fill(unsigned load) {
-    size_t want = (size_t)M * load / 100, fresh_ones = 0;
-    memset(&ours, 0, sizeof ours);
-    memset(&theirs, 0, sizeof theirs);
+    size_t fresh_ones = 0;
     Table *t = &ours;
-    boughladder_fresh(TABLE);
-    for (herd = 0; herd < want;) {
-        uint64_t animal = any();
-        if (boughladder_set(TABLE, animal, (uint32_t)any(), NOW - any() % 1000, 0).refusal == 0) held[herd++] = animal;
-    }
+    memset(&ours, 0, sizeof ours);
+    settle(&ours, load);
     /* The new animals find room at this load with the others of their batch. */
     while (fresh_ones < M) {
         uint64_t animal = any();
@@ -138,7 +98,7 @@ static void fill(unsigned load) {
             for (size_t i = fresh_ones - BATCH; i < fresh_ones; i++) boughladder_delete(TABLE, absent[i]);
     }
     memcpy(&theirs, &ours, sizeof ours);
-    for (size_t i = 0; i < READS; i++) asked[i] = any() % 10 == 0 ? any() : held[any() % herd];
+    choose_questions();
 }
 
 static double best_ours, best_theirs;

@@ -329,8 +329,8 @@ def replay(data):
     r = Replay()
     lines = data.split(b'\n')
     for number, line in enumerate(lines, 1):
-        if number < len(lines) and line.endswith(b'\r'):
-            line = line[:-1]                     # the line ended in CR LF
+        if line.endswith(b'\r'):
+            line = line[:-1]                     # CR LF, or a CR that ends the file: docs/DECISIONS.md
         words = line.split(b'#')[0].replace(b'\t', b' ').split(b' ')
         words = [w for w in words if w]
         if not words:

@@ -11,12 +11,21 @@ fn say(words: &[u8]) {
     io::write_all(STDERR_FILENO, words);
 }
 
-// A byte more than was taken means that the file is too large: nothing of it is replayed.
-fn run(from: i32) {
+// Nothing is replayed of a file that is too large, or that can't be read to its end: a directory, or a failing disk.
+fn run(name: &[u8], from: i32) {
     let mut text = large();
     let n = io::read_full(from, &mut text);
     let mut more = [0u8; 1];
-    if io::read_full(from, &mut more) != 0 {
+    let got = libc::read(from, &mut more);
+    if got < 0 {
+        os::fail(name);
+        return;
+    }
+    if got > 0 {
+        if n < 2097152 {
+            say(b"replay: a read failed, nothing was replayed\n");
+            return;
+        }
         say(b"replay: more than 2097152 bytes, nothing was replayed\n");
         return;
     }
@@ -29,7 +38,7 @@ fn use_file(path: &[u8]) {
         os::fail(path);
         return;
     }
-    run(from);
+    run(path, from);
     libc::close(from);
 }
 
@@ -40,7 +49,7 @@ fn main() {
             say(b"replay < FILE: the same from standard input\n");
             return;
         }
-        run(STDIN_FILENO);
+        run(b"replay", STDIN_FILENO);
         return;
     }
     let mut path = io::buffer();

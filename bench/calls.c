@@ -1,0 +1,209 @@
+/*
+ * calls.c: writes a file of calls for the replay program. The same seed gives the same file.
+ *     calls [SEED [COUNT]]        COUNT calls (100,000) as a gate makes them in a day
+ *     calls --any [SEED [COUNT]]  about COUNT lines at the edges of the language: right, nearly right and wrong
+ *
+ * The replay program holds at most 1,024 places, and 100,000 calls must fit into 2 MiB. So the day has a herd of 960 for
+ * 1,024 places and 1,024 slots, and scattered animal numbers of at most five digits.
+ */
+#include <inttypes.h>
+#include <stdio.h>
+#include <stdlib.h>
+#include <string.h>
+
+#define HERD 960
+#define LONGEST 70000 /* characters of the longest tail of a line: more than 16 bits count */
+
+static uint64_t state;
+
+static uint64_t any(void) { /* xorshift64* */
+    state ^= state >> 12;
+    state ^= state << 25;
+    state ^= state >> 27;
+    return state * UINT64_C(2685821657736338717);
+}
+
+static uint64_t below(uint64_t bound) { return (any() >> 11) % bound; }
+static int one_in(uint64_t count) { return below(count) == 0; }
+
+/* A day at the gate. Nine in ten that come are of the herd. An animal that is deleted makes room for a newcomer, and one
+   that the hand took is set again when her next update comes: so some 890 are held at a time, seven slots in eight. */
+static void a_day(uint64_t count) {
+    unsigned herd[HERD], *leaving = NULL;
+    for (uint64_t made = 0; made < count; made++) {
+        unsigned now = (unsigned)(made * 1440 / count), permission = (unsigned)below(3);
+        unsigned stranger = 1 + (unsigned)below(65535), *animal = herd + below(HERD);
+        uint64_t kind = below(100);
+        if (made == 0) {
+            puts("fresh 1024 256 4096");
+        } else if (made % 20000 == 19999) {
+            puts(made % 40000 == 39999 ? "dump" : "list 20480");
+        } else if (made <= HERD || leaving != NULL) {
+            animal = made <= HERD ? herd + made - 1 : leaving;
+            leaving = NULL;
+            *animal = stranger;
+            printf("set %u %u %u\n", *animal, permission, now);
+        } else if (kind < 72) {
+            printf("serve %u 720 %u\n", one_in(10) ? stranger : *animal, now);
+        } else if (kind < 84) {
+            printf("read %u 720 %u\n", one_in(10) ? stranger : *animal, now);
+        } else if (kind < 97) {
+            printf("set %u %u %u%s\n", *animal, permission, now, one_in(100) ? " standing" : "");
+        } else if (kind < 99) {
+            printf("delete %u\n", *animal);
+            leaving = animal;
+        } else {
+            puts("evict");
+        }
+    }
+}
+
+/* From here on the edges. A line is put together from words, each of which may go wrong by itself. */
+static char line[3 * LONGEST];
+static size_t used;
+
+static const char *const edges[] = {
+    "18446744073709551614", "18446744073709551615", "18446744073709551616", "18446744073709551625",
+    "18446744073709551610", "20000000000000000000", "99999999999999999999", "184467440737095516150",
+    "340282366920938463463374607431768211456", "9223372036854775807", "9223372036854775808", "4294967294", "4294967295",
+    "4294967296", "0", "1", "00", "65536", "10080", "10081", "81919", "81920", "81921", "8192", "8196", "16384", "1024",
+    "1025", "4096", "4100", "-0", "-1", "+1", "1.", "1,024", "0x10", "1e3", "1_0", "'1'", "standing", "set", "\v1", "1\f",
+    "\xc2\xa0", "\r", "1\r", "\\", "/", ":", "9:",
+};
+
+static void put(const char *text) {
+    size_t length = strlen(text);
+    memcpy(line + used, text, length);
+    used += length;
+}
+
+static void put_many(char c, size_t count) {
+    memset(line + used, c, count);
+    used += count;
+}
+
+static size_t a_length(void) { return one_in(20) ? LONGEST : below(3000); }
+
+/* One word, or none, or two. */
+static void word(const char *text) {
+    if (one_in(400)) return;
+    do {
+        static const char *const gaps[] = {"\t", "  ", " \t ", "", "\t\t"};
+        put(one_in(40) ? gaps[below(5)] : used == 0 ? "" : " ");
+        put(text);
+    } while (one_in(400));
+}
+
+static void number(uint64_t value) {
+    char text[128];
+    if (one_in(60)) value += UINT64_C(1) << 32; /* the same, if somebody keeps 32 bits of it */
+    int digits = one_in(50) ? (int)below(100) : 1; /* with zeros before it */
+    snprintf(text, sizeof text, "%0*" PRIu64, digits, value);
+    word(one_in(80) ? edges[below(sizeof edges / sizeof *edges)] : text);
+}
+
+/* The lengths of the runs, and a factor that scatters the animals. */
+static uint64_t slots = 16, counters = 4, items = 20, odd = 1;
+static enum { WHOLE, CUT, POKED } mood;
+
+static uint64_t an_animal(void) { return (1 + below(items / 2 + 2)) * odd; }
+static uint64_t a_minute(void) { return 500 + below(1000); }
+
+static void fresh(void) {
+    static const uint64_t strange[] = {0, 3, 4, 5, 12, 1023, 1024, 1025, 4096, 4100, 8192, 8196, 16384, 32768};
+    word("fresh");
+    if (one_in(3)) { /* mostly refused: then the table there was goes on */
+        for (int i = 0; i < 3; i++) number(one_in(2) ? strange[below(14)] : 8 * (1 + below(3)));
+        return;
+    }
+    int large = one_in(30);
+    slots = large ? 8192 : UINT64_C(8) << below(3);
+    counters = large ? 1024 : 1 + below(8);
+    items = large ? 4096 : 4 * (1 + below(slots));
+    odd = one_in(2) ? 1 : any() | 1;
+    mood = below(3);
+    number(slots), number(counters), number(items);
+}
+
+static void poke(void) {
+    word("poke");
+    switch (below(3)) {
+    case 0:
+        word("slots");
+        number(below(slots + 2));
+        number(one_in(8) ? any() >> below(64) : below(3) * 65536 * below(257) + below(items / 4 + 1));
+        break;
+    case 1:
+        word("counters");
+        number(below(counters + 1));
+        number(one_in(2) ? 2 * below(3) : UINT32_MAX - 2 + below(4));
+        break;
+    default:
+        word("items");
+        number(below(items + 2));
+        number(one_in(4) ? any() >> below(64) : one_in(2) ? an_animal() : below(3));
+    }
+}
+
+static void a_write(void) {
+    if (mood != WHOLE && one_in(8)) word("cut"), number(below(24));
+    switch (below(10)) { /* mostly sets, so that the small tables fill up */
+    case 0: word("delete"), number(an_animal()); break;
+    case 1: word("evict"); break;
+    default:
+        word("set");
+        number(an_animal());
+        number(one_in(20) ? UINT32_MAX - 2 + below(5) : below(5));
+        number(a_minute());
+        if (one_in(6)) word("standing");
+    }
+}
+
+static void a_call(void) {
+    uint64_t kind = below(100);
+    if (one_in(150)) fresh();
+    else if (kind < 45) a_write();
+    else if (kind < 80) {
+        word(one_in(2) ? "read" : "serve");
+        number(an_animal());
+        number(one_in(2) ? 720 : one_in(2) ? below(1000) : 10079 + below(3));
+        number(a_minute());
+    } else if (kind < 84) word("hand"), number(below(items / 4 + 1));
+    else if (kind < 88) {
+        word("list");
+        number(one_in(2) ? below(5 * items + 21) : one_in(2) ? 20 * below(items / 4 + 1) : 81919 + below(3));
+    } else if (kind < 91) word("dump");
+    else if (mood == POKED || kind > 98) poke();
+    else a_write();
+}
+
+static void a_line(void) {
+    used = 0;
+    if (!one_in(60)) a_call();
+    if (one_in(300)) put_many(" \t0a"[below(4)], a_length());
+    if (one_in(30)) put(one_in(2) ? " # set 1 1 1" : "#");
+    if (one_in(600)) put_many('#', a_length());
+    if (used > 0 && one_in(60)) line[below(used)] = (char)below(256); /* a NUL or a line end, too */
+    if (one_in(8)) put_many('\r', one_in(20) ? 2 : 1);
+    put("\n");
+    fwrite(line, 1, used, stdout);
+}
+
+/* The first lines have no table. The last one shows every word; its line end may be missing, or half of it. */
+static void the_edges(uint64_t seed, uint64_t count) {
+    static const char *const ends[] = {"\n", "", "\r\n", "\r"};
+    for (uint64_t made = 1; made < count; made++)
+        if (made == 40) puts("fresh 16 4 20");
+        else a_line();
+    printf("dump%s", ends[seed % 4]);
+}
+
+int main(int arguments, char **argument) {
+    int edge = arguments > 1 && strcmp(argument[1], "--any") == 0;
+    uint64_t seed = arguments > 1 + edge ? strtoull(argument[1 + edge], NULL, 10) : 1;
+    uint64_t count = arguments > 2 + edge ? strtoull(argument[2 + edge], NULL, 10) : 100000;
+    state = (seed + 1) * UINT64_C(11400714819323198485);
+    if (edge) the_edges(seed, count);
+    else a_day(count);
+    return 0;
+}

@@ -1,0 +1,270 @@
+/*
+ * replayed.c: the replay program once more, in plain C over the anchor, to compare with the proved one.
+ * It was written from docs/replay-format.md and writes the same bytes. Use: replayed [FILE].
+ */
+#include "anchor.h"
+
+#include <stdio.h>
+#include <string.h>
+
+#define FILE_MOST 2097152 /* docs/DECISIONS.md: the largest file that the proved program takes */
+#define SLOTS_MOST 8192
+#define COUNTERS_MOST 1024
+#define ITEMS_MOST 4096
+#define BUFFER_MOST 81920
+#define WORDS 8 /* one more than the longest call has, so that a word too many is seen */
+
+/* The longest answer is a dump of the largest table: 11 characters for a 32-bit word with its space, 21 for a 64-bit one. */
+#define ANSWER_MOST (64 + 11 * (SLOTS_MOST + COUNTERS_MOST) + 21 * ITEMS_MOST)
+
+typedef struct {
+    const char *at;
+    size_t length;
+} Word;
+
+static uint32_t slots[SLOTS_MOST], counters[COUNTERS_MOST];
+static uint64_t items[ITEMS_MOST], hand;
+static size_t slots_length, counters_length, items_length; /* 0 until the first fresh */
+static uint8_t buffer[BUFFER_MOST];
+static char file[FILE_MOST + 1], answers[4 * ANSWER_MOST], *out = answers;
+
+#define TABLE slots, slots_length, counters, counters_length, items, items_length
+#define TELL(text) tell(text, sizeof(text) - 1)
+
+static void tell(const char *text, size_t length) {
+    memcpy(out, text, length);
+    out += length;
+}
+
+static void tell_number(uint64_t number) {
+    char digits[20], *first = digits + sizeof digits;
+    do *--first = (char)('0' + number % 10);
+    while ((number /= 10) != 0);
+    tell(first, (size_t)(digits + sizeof digits - first));
+}
+
+static void tell_next(uint64_t number) {
+    *out++ = ' ';
+    tell_number(number);
+}
+
+static int tell_refusal(uint32_t refusal) {
+    if (refusal == 0) return 0;
+    TELL("refused");
+    tell_next(refusal);
+    return 1;
+}
+
+/* Names are literals, so that the compiler compares them in a register or two. */
+static inline int is(Word word, const char *name) {
+    return word.length == strlen(name) && memcmp(word.at, name, strlen(name)) == 0;
+}
+
+static int number_of(Word word, uint64_t *number) {
+    uint64_t n = 0;
+    for (size_t i = 0; i < word.length; i++) {
+        uint64_t digit = (uint64_t)(unsigned char)word.at[i] - '0';
+        if (digit > 9) return 0;
+        if (i >= 19 && (n > UINT64_MAX / 10 || 10 * n > UINT64_MAX - digit)) return 0; /* 19 digits always fit */
+        n = 10 * n + digit;
+    }
+    *number = n;
+    return 1;
+}
+
+/* Each of the calls below gets the words behind its name, and gives 0 where they are not understood. */
+static int numbers_of(const Word *words, size_t count, size_t wanted, uint64_t *numbers) {
+    if (count != wanted) return 0;
+    for (size_t i = 0; i < count; i++)
+        if (!number_of(words[i], numbers + i)) return 0;
+    return 1;
+}
+
+static int fresh(const Word *words, size_t count) {
+    uint64_t n[3];
+    if (!numbers_of(words, count, 3, n)) return 0;
+    int held = n[0] <= SLOTS_MOST && n[1] <= COUNTERS_MOST && n[2] <= ITEMS_MOST;
+    if (tell_refusal(held ? anchor_fresh(slots, n[0], counters, n[1], items, n[2]) : BOUGHLADDER_BAD_SHAPE)) return 1;
+    slots_length = n[0];
+    counters_length = n[1];
+    items_length = n[2];
+    hand = 0;
+    TELL("fresh");
+    return 1;
+}
+
+static int read_or_serve(const Word *words, size_t count, int serve) {
+    uint64_t n[3];
+    if (!numbers_of(words, count, 3, n)) return 0;
+    BoughladderReading r = serve ? anchor_serve(TABLE, n[0], n[1], n[2]) : anchor_read(TABLE, n[0], n[1], n[2]);
+    if (tell_refusal(r.refusal)) return 1;
+    if (r.kind == BOUGHLADDER_FRESH) {
+        TELL("fresh");
+        tell_next(r.permission);
+        tell_next(r.age);
+    } else if (r.kind == BOUGHLADDER_OLD) {
+        TELL("old");
+        tell_next(r.age);
+    } else if (r.kind == BOUGHLADDER_AHEAD) {
+        TELL("ahead");
+    } else {
+        TELL("absent");
+    }
+    return 1;
+}
+
+/* Set, delete and evict: k is NULL for the whole call, else how many stores are made. */
+static int set(const Word *words, size_t count, const uint64_t *k) {
+    uint64_t n[3];
+    uint32_t standing = count == 4 && is(words[3], "standing");
+    if (!numbers_of(words, count - standing, 3, n) || n[1] > UINT32_MAX) return 0;
+    BoughladderSetting s = k ? anchor_set_cut(TABLE, n[0], (uint32_t)n[1], n[2], standing, *k)
+                             : anchor_set(TABLE, n[0], (uint32_t)n[1], n[2], standing);
+    if (tell_refusal(s.refusal)) return 1;
+    TELL("stored");
+    tell_next(s.visits);
+    tell_next(s.moves);
+    return 1;
+}
+
+static int delete(const Word *words, size_t count, const uint64_t *k) {
+    uint64_t animal;
+    if (!numbers_of(words, count, 1, &animal)) return 0;
+    if (!tell_refusal(k ? anchor_delete_cut(TABLE, animal, *k) : anchor_delete(TABLE, animal))) TELL("deleted");
+    return 1;
+}
+
+static int evict(size_t count, const uint64_t *k) {
+    if (count != 0) return 0;
+    BoughladderEvicting e = k ? anchor_evict_cut(TABLE, hand, *k) : anchor_evict(TABLE, hand);
+    hand = e.hand;
+    if (tell_refusal(e.refusal)) return 1;
+    TELL("evicted");
+    tell_next(e.victim);
+    tell_next(e.looked);
+    tell_next(e.hand);
+    return 1;
+}
+
+static int write_call(const Word *words, size_t count, const uint64_t *k) {
+    if (is(words[0], "set")) return set(words + 1, count - 1, k);
+    if (is(words[0], "delete")) return delete(words + 1, count - 1, k);
+    return is(words[0], "evict") && evict(count - 1, k);
+}
+
+static int list(const Word *words, size_t count) {
+    uint64_t length;
+    if (!numbers_of(words, count, 1, &length) || length > BUFFER_MOST) return 0;
+    BoughladderListing l = anchor_list(TABLE, buffer, length);
+    if (tell_refusal(l.refusal)) return 1;
+    TELL("listed");
+    tell_next(l.count);
+    for (size_t i = 0; i < 20 * l.count; i++) {
+        if (i % 20 == 0) *out++ = '\n';
+        *out++ = "0123456789abcdef"[buffer[i] >> 4];
+        *out++ = "0123456789abcdef"[buffer[i] & 15];
+    }
+    return 1;
+}
+
+static int poke(const Word *words, size_t count) {
+    uint64_t n[2];
+    if (count != 3 || !numbers_of(words + 1, 2, 2, n)) return 0;
+    int narrow = n[1] <= UINT32_MAX, poked = 1;
+    if (is(words[0], "slots")) {
+        if ((poked = n[0] < slots_length && narrow)) slots[n[0]] = (uint32_t)n[1];
+    } else if (is(words[0], "counters")) {
+        if ((poked = n[0] < counters_length && narrow)) counters[n[0]] = (uint32_t)n[1];
+    } else if (is(words[0], "items")) {
+        if ((poked = n[0] < items_length)) items[n[0]] = n[1];
+    } else {
+        return 0;
+    }
+    if (poked) TELL("poked");
+    else TELL("no such word");
+    return 1;
+}
+
+static int dump(size_t count) {
+    if (count != 0) return 0;
+    TELL("slots");
+    for (size_t i = 0; i < slots_length; i++) tell_next(slots[i]);
+    TELL("\ncounters");
+    for (size_t i = 0; i < counters_length; i++) tell_next(counters[i]);
+    TELL("\nitems");
+    for (size_t i = 0; i < items_length; i++) tell_next(items[i]);
+    return 1;
+}
+
+static int answer(const Word *words, size_t count) {
+    uint64_t k;
+    if (is(words[0], "serve")) return read_or_serve(words + 1, count - 1, 1);
+    if (is(words[0], "read")) return read_or_serve(words + 1, count - 1, 0);
+    if (is(words[0], "cut")) return count > 2 && number_of(words[1], &k) && write_call(words + 2, count - 2, &k);
+    if (is(words[0], "fresh")) return fresh(words + 1, count - 1);
+    if (is(words[0], "list")) return list(words + 1, count - 1);
+    if (is(words[0], "poke")) return poke(words + 1, count - 1);
+    if (is(words[0], "dump")) return dump(count - 1);
+    if (is(words[0], "hand")) {
+        if (!numbers_of(words + 1, count - 1, 1, &hand)) return 0;
+        TELL("hand");
+        return 1;
+    }
+    return write_call(words, count, NULL);
+}
+
+/* Digits and letters are all above '#', so that one comparison is enough for them. */
+static inline int in_word(unsigned char c) { return c > '#' || (c != ' ' && c != '\t' && c != '#'); }
+
+static size_t split(const char *at, const char *end, Word *words) {
+    size_t count = 0;
+    while (count < WORDS) {
+        while (at < end && (*at == ' ' || *at == '\t')) at++;
+        if (at == end || *at == '#') break;
+        words[count].at = at;
+        while (at < end && in_word((unsigned char)*at)) at++;
+        words[count].length = (size_t)(at - words[count].at);
+        count++;
+    }
+    return count;
+}
+
+static int hand_out(void) {
+    size_t length = (size_t)(out - answers);
+    out = answers;
+    return fwrite(answers, 1, length, stdout) == length;
+}
+
+static int replay(const char *at, const char *end) {
+    Word words[WORDS];
+    for (uint64_t number = 1; at < end; number++) {
+        const char *feed = memchr(at, '\n', (size_t)(end - at)), *stop = feed ? feed : end;
+        if (stop > at && stop[-1] == '\r') stop--; /* docs/DECISIONS.md: of a last line without LF, too */
+        size_t count = split(at, stop, words);
+        if (count > 0) {
+            if (!answer(words, count)) {
+                TELL("line");
+                tell_next(number);
+                TELL(": not understood");
+            }
+            *out++ = '\n';
+            if (out > answers + sizeof answers - ANSWER_MOST && !hand_out()) return 0;
+        }
+        at = feed ? feed + 1 : end;
+    }
+    return hand_out() && fflush(stdout) == 0;
+}
+
+int main(int arguments, char **argument) {
+    FILE *from = arguments < 2 ? stdin : fopen(argument[1], "rb");
+    size_t length = from ? fread(file, 1, sizeof file, from) : 0;
+    if (!from || ferror(from)) {
+        perror(arguments < 2 ? "replayed" : argument[1]);
+        return 1;
+    }
+    if (length > FILE_MOST) {
+        fprintf(stderr, "replayed: more than %d bytes, nothing was replayed\n", FILE_MOST);
+        return 1;
+    }
+    return replay(file, file + length) ? 0 : 1;
+}
