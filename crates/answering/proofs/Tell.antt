@@ -7,7 +7,7 @@ use Rattle.model.specs.Answers.{Answer, Call, evict, hand-back}
 use Rattle.model.specs.Said.{said-reading, said-evicting}
 use Rattle.model.specs.declared.Reading.{Reading}
 use Rattle.language.specs.Print.{Put}
-use Rattle.reading.specs.Look.{Served}
+use Rattle.reading.specs.Serve.{Served}
 use Rattle.writing.specs.Wrote.{CutAs, WholeAs}
 use Rattle.evicting.specs.declared.Turned.{Turned}
 use Rattle.evicting.specs.Evict.{EvictCut, Evicted}

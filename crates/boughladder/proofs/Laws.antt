@@ -9,7 +9,7 @@ use lib.Dec.{eqb, ltb}
 use Rattle.writing.specs.Wrote.{CutAs, FreshAs, WholeAs}
 use Rattle.evicting.specs.Evict.{EvictCut, Evicted}
 use Rattle.listing.specs.List.{ListedAs}
-use Rattle.reading.specs.Look.{Served}
+use Rattle.reading.specs.Serve.{Served}
 use Rattle.model.specs.Choice.{choose}
 use Rattle.model.specs.Memory.{Mem, mem, permission, stamp}
 use Rattle.model.specs.Yard.{Yard, right-lengths, sizes, yard-of}

@@ -10,7 +10,7 @@ use mathlib.Core.List.{List, _++_}
 use lib.ListN.{length, getD}
 use lib.Dec.{eqb}
 use borrow.Author.Tests.{eq-eqb, ne-eqb, le-leb, lt-leb, not-true, not-false}
-use Rattle.reading.specs.Look.{HomesIn, home-words, slot-found}
+use Rattle.looking.specs.Look.{HomesIn, home-words, slot-found}
 use Rattle.model.specs.Choice.{any, choose, first, range}
 use Rattle.places.specs.Walks.{scanned}
 use Rattle.model.specs.Memory.{Mem, damaged, place, tag, word}
@@ -18,14 +18,14 @@ use Rattle.model.specs.Yard.{good-lengths, homes, right-lengths, sizes}
 use Rattle.model.specs.Answers.{evict}
 use Rattle.model.specs.Clock.{Victim, victim}
 use Rattle.model.specs.Calls.{Outcome, call, evict-animal, evict-at, evict-slot, hurt, refuse, slot-of, some-live}
-use Rattle.reading.proofs.Asked.{Y4, hurt-words}
+use Rattle.looking.proofs.Asked.{Y4, hurt-words}
 use Rattle.places.proofs.Found.{scan-empty, scan-live, scan-within}
 use Rattle.model.proofs.Laws.{both-no, both-yes, first-same}
 use Rattle.model.proofs.Lent.{fit, four-sizes}
 use Rattle.evicting.specs.Evict.{Aimed, Aims, Handed, Planned, Readies, Turns, evicting, places-in, plan-outcome}
 use Rattle.hashing.specs.declared.Homes.{Homes}
-use Rattle.reading.specs.declared.Slot.{Slot}
-use Rattle.reading.specs.declared.Slot.the-variants as slot
+use Rattle.looking.specs.declared.Slot.{Slot}
+use Rattle.looking.specs.declared.Slot.the-variants as slot
 use Rattle.places.specs.declared.Scan.{Scan}
 use Rattle.places.specs.declared.Scan.the-variants as scan
 use Rattle.evicting.specs.declared.Plan.{Plan}

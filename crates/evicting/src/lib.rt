@@ -8,10 +8,10 @@ ghost use Rattle.model.specs.Memory.{mem, live, is-recent};
 ghost use Rattle.model.specs.Clock.{prepend, passed-recent};
 ghost use Rattle.storing.specs.Made.{Made};
 ghost use Rattle.evicting.specs.Evict.{EvictCut, Evicted, clear-stores, evict-stores, Aimed, Planned, Handed, Ready, Turns};
+use looking::Slot;
 use model::Evicting;
 use places::Hand;
 use places::Scan;
-use reading::Slot;
 
 // What evict gives back: its answer, and the hand.
 pub struct Turned {
@@ -39,17 +39,17 @@ fn plan_of(slots: &[u32], counters: &[u32], items: &[u64], place: u32, looked: u
     requires { ⌜ Aimed (mem (now slots) (now counters) (now items)) place ⌝ }
     ensures { λ r. ⌜ Planned (mem (now (slots .entry)) (now (counters .entry)) (now (items .entry))) place looked r ⌝ }
 {
-    let animal = reading::get64(items, 4 * (place as usize));
-    let h = reading::homes_in(slots, counters, items, animal);
-    if reading::is_odd(counters, h.counter) {
+    let animal = looking::get64(items, 4 * (place as usize));
+    let h = looking::homes_in(slots, counters, items, animal);
+    if looking::is_odd(counters, h.counter) {
         return Plan::Refused(8);
     }
-    let e = reading::home_words_of(slots, h.first, h.second);
+    let e = looking::home_words_of(slots, h.first, h.second);
     let m = (items.len() / 4) as u32;
-    if reading::any_damaged(e, m) {
+    if looking::any_damaged(e, m) {
         return Plan::Refused(4);
     }
-    let found = reading::slot_of(slots, h.first, h.second, h.tag * 65536 + place);
+    let found = looking::slot_of(slots, h.first, h.second, h.tag * 65536 + place);
     let Slot::At(slot) = found else {
         return Plan::Refused(4);
     };

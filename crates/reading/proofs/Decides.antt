@@ -8,7 +8,7 @@ use Rattle.model.specs.Answers.{find, read, serve}
 use Rattle.model.specs.Said.{said-finding, said-reading}
 use Rattle.model.specs.Lent.{lent-call}
 use Rattle.model.proofs.Said.{finding-one, reading-one}
-use Rattle.reading.specs.Look.{Served}
+use Rattle.reading.specs.Serve.{Served}
 use Rattle.model.specs.declared.Reading.{Reading}
 use Rattle.model.specs.declared.Finding.{Finding}
 

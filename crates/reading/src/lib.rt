@@ -1,203 +1,25 @@
-// Read, serve and find: the eight home slots of an animal, judged and compared once.
+// Read, serve and find.
 ghost use mathlib.Core.Path.{_≡_};
-ghost use mathlib.Core.List.{List, [], _∷_, _++_};
-ghost use Prim.Native.Nat.{ℕ, _+_, _*_, _/_, _%_, _<_, _≤_};
-ghost use lib.ListN.{length, getD, set};
-ghost use lib.Dec.{eqb};
-ghost use mathlib.Core.Bool.{true};
-ghost use Rattle.model.specs.Choice.{choose, any, first, range};
-ghost use Rattle.model.specs.Memory.{mem, damaged, permission, stamp};
-ghost use Rattle.model.specs.Yard.{sizes, good-lengths, right-lengths};
+ghost use mathlib.Core.List.{List};
+ghost use Prim.Native.Nat.{ℕ, _+_, _*_, _<_, _≤_};
+ghost use lib.ListN.{length, set};
+ghost use Rattle.model.specs.Choice.{choose};
+ghost use Rattle.model.specs.Memory.{mem, permission, stamp};
+ghost use Rattle.model.specs.Yard.{sizes};
 ghost use Rattle.model.specs.Answers.{read, serve, find};
 ghost use Rattle.model.specs.Age.{verdict, is-fresh, bad-time};
 ghost use Rattle.model.specs.Lent.{lent-call};
 ghost use Rattle.model.specs.Said.{said-reading, said-finding};
-ghost use Rattle.reading.specs.Look.{words-of, home-words, tag-sum, leads, found-word, first-of, early, Passed, HomesIn, Served, LooksUp, slot-found, slot-or};
-use hashing::Homes;
+ghost use Rattle.looking.specs.Look.{Passed};
+ghost use Rattle.reading.specs.Serve.{Served};
 use model::Finding;
 use model::Reading;
-
-// The word at i, 0 outside: what the definitions read there.
-pub fn get64(s: &[u64], i: usize) -> u64
-    ensures { λ r. ⌜ r ≡ getD (now (s .entry)) i 0 ⌝ }
-{
-    if i < s.len() {
-        return s[i];
-    }
-    0
-}
-
-// One eager expression: the eight tests become vector code with one branch.
-pub fn is_damaged(w: u32, m: u32) -> bool
-    ensures { λ r. ⌜ r ≡ damaged m w ⌝ }
-{
-    (w != 0) & (((w / 65536 == 0) | (255 < w / 65536)) | (m <= w % 65536))
-}
-
-// The words of the eight home slots, first bucket first.
-pub struct Eight {
-    pub w0: u32,
-    pub w1: u32,
-    pub w2: u32,
-    pub w3: u32,
-    pub w4: u32,
-    pub w5: u32,
-    pub w6: u32,
-    pub w7: u32,
-}
-
-// Requires the buckets to lie in the run: the reader's hot path then has no bounds check.
-pub fn home_words_of(slots: &[u32], first: u32, second: u32) -> Eight
-    requires { ⌜ (first * 4 + 3 < length (now slots)) × (second * 4 + 3 < length (now slots)) ⌝ }
-    ensures { λ r. ⌜ words-of r ≡ home-words (now (slots .entry)) first second ⌝ }
-{
-    let x = (first as usize) * 4;
-    let y = (second as usize) * 4;
-    let w0 = slots[x];
-    let w1 = slots[x + 1];
-    let w2 = slots[x + 2];
-    let w3 = slots[x + 3];
-    let w4 = slots[y];
-    let w5 = slots[y + 1];
-    let w6 = slots[y + 2];
-    let w7 = slots[y + 3];
-    Eight {
-        w0,
-        w1,
-        w2,
-        w3,
-        w4,
-        w5,
-        w6,
-        w7,
-    }
-}
-
-// Refusal 4 looks at all eight words.
-pub fn any_damaged(e: Eight, m: u32) -> bool
-    ensures { λ r. ⌜ r ≡ any (damaged m) (words-of e) ⌝ }
-{
-    let low = is_damaged(e.w4, m)
-        | (is_damaged(e.w5, m) | (is_damaged(e.w6, m) | is_damaged(e.w7, m)));
-    is_damaged(e.w0, m)
-        | (is_damaged(e.w1, m) | (is_damaged(e.w2, m) | (is_damaged(e.w3, m) | low)))
-}
-
-// The word if it has the tag, else 0.
-fn with_tag(w: u32, tag: u32) -> u32
-    requires { ⌜ tag < 256 ⌝ }
-    ensures { λ r. ⌜ (r ≡ tag-sum tag (w ∷ [])) × (r < 16777216) ⌝ }
-{
-    if w / 65536 == tag {
-        return w;
-    }
-    0
-}
-
-// The sum of the words with the tag: where one word has it, the sum is that word.
-fn sum_with_tag(e: Eight, tag: u32) -> u32
-    requires { ⌜ tag < 256 ⌝ }
-    ensures { λ r. ⌜ r ≡ tag-sum tag (words-of e) ⌝ }
-{
-    let a = with_tag(e.w0, tag) + with_tag(e.w1, tag) + with_tag(e.w2, tag) + with_tag(e.w3, tag);
-    a + with_tag(e.w4, tag) + with_tag(e.w5, tag) + with_tag(e.w6, tag) + with_tag(e.w7, tag)
-}
-
-// The word if it has the tag and its place holds the animal's number, else 0.
-fn leading_word(items: &[u64], w: u32, tag: u32, animal: u64) -> u32
-    ensures { λ r. ⌜ r ≡ found-word (first (leads (now (items .entry)) tag animal) (w ∷ [])) ⌝ }
-{
-    if w / 65536 != tag {
-        return 0;
-    }
-    if get64(items, 4 * ((w % 65536) as usize)) != animal {
-        return 0;
-    }
-    w
-}
-
-fn or_else(a: u32, b: u32) -> u32
-    ensures { λ r. ⌜ r ≡ first-of a b ⌝ }
-{
-    if a == 0 {
-        return b;
-    }
-    a
-}
-
-// Slot by slot, where two words or more share the tag.
-fn hit_by_slots(items: &[u64], e: Eight, tag: u32, animal: u64) -> u32
-    requires { ⌜ 1 ≤ tag ⌝ }
-    ensures { λ r. ⌜ r ≡ found-word (first (leads (now (items .entry)) tag animal) (words-of e)) ⌝ }
-{
-    let a7 = leading_word(items, e.w7, tag, animal);
-    let a6 = or_else(leading_word(items, e.w6, tag, animal), a7);
-    let a5 = or_else(leading_word(items, e.w5, tag, animal), a6);
-    let a4 = or_else(leading_word(items, e.w4, tag, animal), a5);
-    let a3 = or_else(leading_word(items, e.w3, tag, animal), a4);
-    let a2 = or_else(leading_word(items, e.w2, tag, animal), a3);
-    let a1 = or_else(leading_word(items, e.w1, tag, animal), a2);
-    or_else(leading_word(items, e.w0, tag, animal), a1)
-}
-
-// The word of the hit, or 0: no word of a hit is 0, because no tag is. The sum says whether one word has the tag.
-// It is made by the caller: so this stays small, and the compiler puts it into each caller.
-fn hit_word(items: &[u64], e: Eight, tag: u32, animal: u64, sum: u32) -> u32
-    requires { ⌜ (1 ≤ tag) × (sum ≡ tag-sum tag (words-of e)) ⌝ }
-    ensures { λ r. ⌜ r ≡ found-word (first (leads (now (items .entry)) tag animal) (words-of e)) ⌝ }
-{
-    if sum == 0 {
-        return 0;
-    }
-    if sum / 65536 == tag {
-        if get64(items, 4 * ((sum % 65536) as usize)) == animal {
-            return sum;
-        }
-        return 0;
-    }
-    hit_by_slots(items, e, tag, animal)
-}
-
-// Refusals 1, 2 and 3, in this order; 0 if none is given.
-pub fn refused_early(s: usize, v: usize, i: usize, animal: u64, bad: bool) -> u32
-    ensures { λ r. ⌜ r ≡ early (good-lengths 4 4 sizes s v i) animal bad ⌝ }
-{
-    let good = hashing::lengths_are_good(s, v, i);
-    if !good {
-        return 1;
-    }
-    if animal == 0 {
-        return 2;
-    }
-    if bad {
-        return 3;
-    }
-    0
-}
 
 // The limit or the minute is out of range.
 pub fn is_bad_time(limit: u64, minute: u64) -> bool
     ensures { λ r. ⌜ r ≡ bad-time limit minute ⌝ }
 {
     (10080 < limit) | (minute == 18446744073709551615)
-}
-
-// An animal's tag, buckets and counter in a table of good lengths: the callers have refused any other.
-pub fn homes_in(slots: &[u32], counters: &[u32], items: &[u64], animal: u64) -> Homes
-    requires { ⌜ right-lengths 4 4 sizes (mem (now slots) (now counters) (now items)) ≡ true ⌝ }
-    ensures { λ r. ⌜ HomesIn (mem (now (slots .entry)) (now (counters .entry)) (now (items .entry))) animal r ⌝ }
-{
-    let n = (slots.len() / 4) as u32;
-    let v = counters.len() as u32;
-    hashing::homes_of(animal, n, v)
-}
-
-// Busy: the counter is odd.
-pub fn is_odd(counters: &[u32], c: u32) -> bool
-    requires { ⌜ c < length (now counters) ⌝ }
-    ensures { λ r. ⌜ r ≡ eqb (getD (now (counters .entry)) c 0 % 2) 1 ⌝ }
-{
-    counters[c as usize] % 2 == 1
 }
 
 // What is said of a permission and its stamp.
@@ -229,7 +51,12 @@ fn judged_at(items: &[u64], place: u32, limit: u64, minute: u64) -> Reading
     ensures { λ r. ⌜ said-reading r ≡ verdict limit minute (permission (now (items .entry)) place) (stamp (now (items .entry)) place) ⌝ }
 {
     let at = 4 * (place as usize);
-    judged(get64(items, at + 1), get64(items, at + 2), limit, minute)
+    judged(
+        looking::get64(items, at + 1),
+        looking::get64(items, at + 2),
+        limit,
+        minute,
+    )
 }
 
 // A read where no early refusal is due.
@@ -245,17 +72,17 @@ fn read_good(
     ensures { λ r. ⌜ said-reading r
         ≡ lent-call 4 4 sizes (mem (now (slots .entry)) (now (counters .entry)) (now (items .entry))) (read animal limit minute) .answer ⌝ }
 {
-    let h = homes_in(slots, counters, items, animal);
-    if is_odd(counters, h.counter) {
+    let h = looking::homes_in(slots, counters, items, animal);
+    if looking::is_odd(counters, h.counter) {
         return Reading::Refused(8);
     }
-    let e = home_words_of(slots, h.first, h.second);
+    let e = looking::home_words_of(slots, h.first, h.second);
     let m = (items.len() / 4) as u32;
-    if any_damaged(e, m) {
+    if looking::any_damaged(e, m) {
         return Reading::Refused(4);
     }
-    let sum = sum_with_tag(e, h.tag);
-    let w = hit_word(items, e, h.tag, animal, sum);
+    let sum = looking::sum_with_tag(e, h.tag);
+    let w = looking::hit_word(items, e, h.tag, animal, sum);
     if w == 0 {
         return Reading::Absent;
     }
@@ -273,7 +100,7 @@ pub fn read(
     ensures { λ r. ⌜ said-reading r
         ≡ lent-call 4 4 sizes (mem (now (slots .entry)) (now (counters .entry)) (now (items .entry))) (read animal limit minute) .answer ⌝ }
 {
-    let no = refused_early(
+    let no = looking::refused_early(
         slots.len(),
         counters.len(),
         items.len(),
@@ -326,22 +153,22 @@ fn serve_good(
     ensures { λ r. ⌜ Served (mem (now (slots .entry)) (now (counters .entry)) (now (items .entry))) (serve animal limit minute)
         (now (items .exit)) r ⌝ }
 {
-    let h = homes_in(slots, counters, items, animal);
-    if is_odd(counters, h.counter) {
+    let h = looking::homes_in(slots, counters, items, animal);
+    if looking::is_odd(counters, h.counter) {
         return Reading::Refused(8);
     }
-    let e = home_words_of(slots, h.first, h.second);
+    let e = looking::home_words_of(slots, h.first, h.second);
     let m = (items.len() / 4) as u32;
-    if any_damaged(e, m) {
+    if looking::any_damaged(e, m) {
         return Reading::Refused(4);
     }
-    let sum = sum_with_tag(e, h.tag);
-    let w = hit_word(items, e, h.tag, animal, sum);
+    let sum = looking::sum_with_tag(e, h.tag);
+    let w = looking::hit_word(items, e, h.tag, animal, sum);
     if w == 0 {
         return Reading::Absent;
     }
     let told = judged_at(items, w % 65536, limit, minute);
-    let stamp = get64(items, 4 * ((w % 65536) as usize) + 2);
+    let stamp = looking::get64(items, 4 * ((w % 65536) as usize) + 2);
     mark_recent(items, w % 65536, is_in_time(stamp, limit, minute));
     told
 }
@@ -357,7 +184,7 @@ pub fn serve(
     ensures { λ r. ⌜ Served (mem (now (slots .entry)) (now (counters .entry)) (now (items .entry))) (serve animal limit minute)
         (now (items .exit)) r ⌝ }
 {
-    let no = refused_early(
+    let no = looking::refused_early(
         slots.len(),
         counters.len(),
         items.len(),
@@ -370,115 +197,27 @@ pub fn serve(
     serve_good(slots, counters, items, animal, limit, minute)
 }
 
-// What set and delete look up: a refusal, nothing, or the word of the hit.
-pub enum Look {
-    Refused(u32),
-    Absent,
-    At(u32),
-}
-
-pub struct Looked {
-    pub look: Look,
-    pub homes: Homes,
-}
-
-// In a table of good lengths: the callers have refused any other.
-pub fn look_up(slots: &[u32], counters: &[u32], items: &[u64], animal: u64) -> Looked
-    requires { ⌜ right-lengths 4 4 sizes (mem (now slots) (now counters) (now items)) ≡ true ⌝ }
-    ensures { λ r. ⌜ LooksUp (mem (now (slots .entry)) (now (counters .entry)) (now (items .entry))) animal r ⌝ }
-{
-    let homes = homes_in(slots, counters, items, animal);
-    if is_odd(counters, homes.counter) {
-        return Looked {
-            look: Look::Refused(8),
-            homes,
-        };
-    }
-    let e = home_words_of(slots, homes.first, homes.second);
-    let m = (items.len() / 4) as u32;
-    if any_damaged(e, m) {
-        return Looked {
-            look: Look::Refused(4),
-            homes,
-        };
-    }
-    let sum = sum_with_tag(e, homes.tag);
-    let w = hit_word(items, e, homes.tag, animal, sum);
-    if w == 0 {
-        return Looked {
-            look: Look::Absent,
-            homes,
-        };
-    }
-    Looked {
-        look: Look::At(w),
-        homes,
-    }
-}
-
 // The place of an animal. Slot by slot, since nobody waits for it: with two callers the compiler keeps the slow path out of a read.
 pub fn find(slots: &[u32], counters: &[u32], items: &[u64], animal: u64) -> Finding
     ensures { λ r. ⌜ said-finding r
         ≡ lent-call 4 4 sizes (mem (now (slots .entry)) (now (counters .entry)) (now (items .entry))) (find animal) .answer ⌝ }
 {
-    let no = refused_early(slots.len(), counters.len(), items.len(), animal, false);
+    let no = looking::refused_early(slots.len(), counters.len(), items.len(), animal, false);
     if no != 0 {
         return Finding::Refused(no);
     }
-    let h = homes_in(slots, counters, items, animal);
-    if is_odd(counters, h.counter) {
+    let h = looking::homes_in(slots, counters, items, animal);
+    if looking::is_odd(counters, h.counter) {
         return Finding::Refused(8);
     }
-    let e = home_words_of(slots, h.first, h.second);
+    let e = looking::home_words_of(slots, h.first, h.second);
     let m = (items.len() / 4) as u32;
-    if any_damaged(e, m) {
+    if looking::any_damaged(e, m) {
         return Finding::Refused(4);
     }
-    let w = hit_by_slots(items, e, h.tag, animal);
+    let w = looking::hit_by_slots(items, e, h.tag, animal);
     if w == 0 {
         return Finding::Absent;
     }
     Finding::At((w % 65536) as usize)
-}
-
-// A slot that was looked for.
-pub enum Slot {
-    At(usize),
-    Nowhere,
-}
-
-// Slot i if it has the word, else another.
-fn slot_if(has: bool, i: usize, other: usize) -> usize
-    ensures { λ r. ⌜ r ≡ choose has i other ⌝ }
-{
-    if has {
-        return i;
-    }
-    other
-}
-
-// The first slot of a bucket with a word, else another. All four are compared and none is branched on: where a word stands can't be foretold.
-fn slot_among(slots: &[u32], b: u32, w: u32, other: usize) -> usize
-    requires { ⌜ b * 4 + 3 < length (now slots) ⌝ }
-    ensures { λ r. ⌜ r ≡ slot-or other (first (λ i. eqb (getD (now (slots .entry)) i 0) w) (range (b * 4) 4)) ⌝ }
-{
-    let at = (b as usize) * 4;
-    let last = slot_if(slots[at + 3] == w, at + 3, other);
-    let third = slot_if(slots[at + 2] == w, at + 2, last);
-    let second = slot_if(slots[at + 1] == w, at + 1, third);
-    slot_if(slots[at] == w, at, second)
-}
-
-// The first home slot with a word.
-pub fn slot_of(slots: &[u32], near: u32, far: u32, w: u32) -> Slot
-    requires { ⌜ (near * 4 + 3 < length (now slots)) × (far * 4 + 3 < length (now slots)) ⌝ }
-    ensures { λ r. ⌜ slot-found r ≡ first (λ i. eqb (getD (now (slots .entry)) i 0) w) (range (near * 4) 4 ++ range (far * 4) 4) ⌝ }
-{
-    let nowhere = slots.len();
-    let there = slot_among(slots, far, w, nowhere);
-    let slot = slot_among(slots, near, w, there);
-    if slot == nowhere {
-        return Slot::Nowhere;
-    }
-    Slot::At(slot)
 }

@@ -12,7 +12,7 @@ use lib.Dec.{eqb}
 use types.Run.{look}
 use Rattle.searching.specs.Search.{Asked, FoundIs, no-move, tagged}
 use Rattle.writing.specs.Wrote.{CutAs, WholeAs}
-use Rattle.reading.specs.Look.{LooksUp, Passed, early}
+use Rattle.looking.specs.Look.{LooksUp, Passed, early}
 use Rattle.storing.specs.Made.{Made}
 use Rattle.model.specs.Choice.{choose}
 use Rattle.places.specs.Walks.{vacancy}
@@ -30,10 +30,10 @@ use Rattle.model.specs.Lent.{lent-call}
 use Rattle.writing.proofs.Laws.{Few, cut-refuse, few-or, few-refuse, whole-cut}
 use Rattle.storing.proofs.Laws.{made-append}
 use Rattle.model.proofs.Hash.{size-most}
-use Rattle.reading.proofs.Asked.{Y4, early-outcome, early-passed}
+use Rattle.looking.proofs.Asked.{Y4, early-outcome, early-passed}
 use Rattle.places.proofs.Found.{vacancy-within}
 use Rattle.searching.proofs.Visits.{vs}
-use Rattle.reading.proofs.Looking.{look-holds, look-lacks, look-refused}
+use Rattle.looking.proofs.Looking.{look-holds, look-lacks, look-refused}
 use Rattle.searching.proofs.Laws.{RoomFound, damaged-found, nowhere-found, room-found, room-inside}
 use Rattle.model.proofs.Search.{length-climb}
 use Rattle.model.proofs.Lent.{fit, four-sizes, law}
@@ -44,8 +44,8 @@ use Rattle.searching.specs.declared.Ending.the-variants as ending
 use Rattle.hashing.specs.declared.Homes.{Homes}
 use Rattle.places.specs.declared.Vacancy.{Vacancy}
 use Rattle.places.specs.declared.Vacancy.the-variants as vacancies
-use Rattle.reading.specs.declared.Looked.{Looked}
-use Rattle.reading.specs.declared.Look.the-variants as look
+use Rattle.looking.specs.declared.Looked.{Looked}
+use Rattle.looking.specs.declared.Look.the-variants as look
 use Rattle.model.specs.declared.Setting.{Setting}
 
 -- outcomes under a budget

@@ -6,7 +6,7 @@ use mathlib.Core.Option.{Option}
 use mathlib.Core.List.{List, [], _∷_}
 use lib.ListN.{length, getD}
 use Rattle.searching.specs.Search.{FoundIs}
-use Rattle.reading.specs.Look.{HomesIn}
+use Rattle.looking.specs.Look.{HomesIn}
 use Rattle.model.specs.Memory.{Mem, place}
 use Rattle.model.specs.Hash.{Size}
 use Rattle.model.specs.Yard.{right-lengths, sizes, yard-of}

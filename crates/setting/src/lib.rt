@@ -16,9 +16,9 @@ ghost use Rattle.storing.specs.Made.{Made};
 ghost use Rattle.writing.specs.Wrote.{CutAs, WholeAs};
 ghost use Rattle.setting.specs.Enter.{Movable, MovesIn, plain-moves, Does, entering, entering-new, Homed, Searched, updating};
 use hashing::Homes;
+use looking::Look;
 use model::Setting;
 use places::Vacancy;
-use reading::Look;
 use searching::Ending;
 use searching::Found;
 use searching::Move;
@@ -215,12 +215,12 @@ pub fn set_cut(
         (mem (now (slots .exit)) (now (counters .exit)) (now (items .exit))) (said-setting r) ⌝ }
 {
     let late = minute == 18446744073709551615;
-    let no = reading::refused_early(slots.len(), counters.len(), items.len(), animal, late);
+    let no = looking::refused_early(slots.len(), counters.len(), items.len(), animal, late);
     if no != 0 {
         return Setting::Refused(no);
     }
     let stamp = stamp_for(minute, standing);
-    let looked = reading::look_up(slots, counters, items, animal);
+    let looked = looking::look_up(slots, counters, items, animal);
     let look = looked.look;
     let homes = looked.homes;
     match look {
@@ -245,12 +245,12 @@ pub fn set(
 {
     let k = 18446744073709551615;
     let late = minute == 18446744073709551615;
-    let no = reading::refused_early(slots.len(), counters.len(), items.len(), animal, late);
+    let no = looking::refused_early(slots.len(), counters.len(), items.len(), animal, late);
     if no != 0 {
         return Setting::Refused(no);
     }
     let stamp = stamp_for(minute, standing);
-    let looked = reading::look_up(slots, counters, items, animal);
+    let looked = looking::look_up(slots, counters, items, animal);
     let look = looked.look;
     let homes = looked.homes;
     match look {

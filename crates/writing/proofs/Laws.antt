@@ -12,7 +12,7 @@ use lib.Seq.{getD-set-same, getD-set-other, take-nil, take-all, ext-getD}
 use lib.Dec.{eqb}
 use borrow.Author.Tests.{eq-eqb, ne-eqb, not-true, not-false}
 use types.Run.{look}
-use Rattle.reading.specs.Look.{LooksUp, Passed, early, found-word, slot-found}
+use Rattle.looking.specs.Look.{LooksUp, Passed, early, found-word, slot-found}
 use Rattle.storing.specs.Made.{Made}
 use Rattle.model.specs.Choice.{choose, first, range}
 use Rattle.model.specs.Memory.{Mem, animal, mem, place, tag, word}
@@ -23,8 +23,8 @@ use Rattle.model.specs.Calls.{Outcome, busy, delete-at, hit, hits, hurt, place-
 use Rattle.model.specs.Lent.{lent-call}
 use Rattle.model.specs.Row.{passed}
 use Rattle.model.specs.AnyTable.{left, slot}
-use Rattle.reading.proofs.Asked.{Y4, early-outcome, early-passed, hit-words, mapped}
-use Rattle.reading.proofs.Looking.{look-holds, look-lacks, look-refused}
+use Rattle.looking.proofs.Asked.{Y4, early-outcome, early-passed, hit-words, mapped}
+use Rattle.looking.proofs.Looking.{look-holds, look-lacks, look-refused}
 use Rattle.model.proofs.Search.{few}
 use Rattle.model.proofs.Laws.{First, bool, first-is, found, missing, true-false}
 use Rattle.model.proofs.Calm.{calm}
@@ -34,10 +34,10 @@ use Rattle.model.proofs.Lent.{fit, four-sizes}
 use Rattle.model.proofs.Trace.{wholes-stores}
 use Rattle.writing.specs.Wrote.{CutAs, FreshAs, Hit, WholeAs}
 use Rattle.hashing.specs.declared.Homes.{Homes}
-use Rattle.reading.specs.declared.Looked.{Looked}
-use Rattle.reading.specs.declared.Look.the-variants as look
-use Rattle.reading.specs.declared.Slot.{Slot}
-use Rattle.reading.specs.declared.Slot.the-variants as slot
+use Rattle.looking.specs.declared.Looked.{Looked}
+use Rattle.looking.specs.declared.Look.the-variants as look
+use Rattle.looking.specs.declared.Slot.{Slot}
+use Rattle.looking.specs.declared.Slot.the-variants as slot
 
 -- a refusal makes no store, cut anywhere
 pub cut-refuse : {m : Mem} {c : Call} {k n : ℕ} → lent-call 4 4 sizes m c ≡ refuse n → CutAs m c k m (refused n)

@@ -3,7 +3,7 @@ use Prim.Native.Nat.{ℕ}
 use mathlib.Core.Path.{_≡_}
 use mathlib.Core.Logic.{_≢_}
 use mathlib.Core.Bool.{false}
-use Rattle.reading.specs.Look.{HomesIn, Passed, found-word, home-words, leads}
+use Rattle.looking.specs.Look.{HomesIn, Passed, found-word, home-words, leads}
 use Rattle.model.specs.Choice.{first}
 use Rattle.model.specs.Memory.{Mem}
 use Rattle.model.specs.Yard.{second-of, sizes, yard-of}

@@ -7,14 +7,14 @@ ghost use lib.ListN.{length, replicate};
 ghost use Rattle.model.specs.Memory.{mem};
 ghost use Rattle.model.specs.Answers.{delete};
 ghost use Rattle.model.specs.Said.{said-starting, said-deleting};
-ghost use Rattle.reading.specs.Look.{LooksUp, Passed};
+ghost use Rattle.looking.specs.Look.{LooksUp, Passed};
 ghost use Rattle.writing.specs.Wrote.{FreshAs, CutAs, WholeAs, Hit};
 use hashing::Homes;
+use looking::Look;
+use looking::Looked;
+use looking::Slot;
 use model::Deleting;
 use model::Starting;
-use reading::Look;
-use reading::Looked;
-use reading::Slot;
 
 // Zero in every word of a run.
 fn zero32(run: &mut [u32])
@@ -66,7 +66,7 @@ fn delete_hit(
     ensures { λ r. ⌜ CutAs (mem (now (slots .entry)) (now (counters .entry)) (now (items .entry))) (delete animal) k
         (mem (now (slots .exit)) (now (counters .exit)) (now (items .exit))) (said-deleting r) ⌝ }
 {
-    let slot = reading::slot_of(slots, homes.first, homes.second, w);
+    let slot = looking::slot_of(slots, homes.first, homes.second, w);
     let Slot::At(i) = slot else {
         return Deleting::Refused(7);
     };
@@ -115,11 +115,11 @@ pub fn delete_cut(
     ensures { λ r. ⌜ CutAs (mem (now (slots .entry)) (now (counters .entry)) (now (items .entry))) (delete animal) k
         (mem (now (slots .exit)) (now (counters .exit)) (now (items .exit))) (said-deleting r) ⌝ }
 {
-    let no = reading::refused_early(slots.len(), counters.len(), items.len(), animal, false);
+    let no = looking::refused_early(slots.len(), counters.len(), items.len(), animal, false);
     if no != 0 {
         return Deleting::Refused(no);
     }
-    let looked = reading::look_up(slots, counters, items, animal);
+    let looked = looking::look_up(slots, counters, items, animal);
     delete_looked(slots, counters, items, animal, looked, k)
 }
 
@@ -128,10 +128,10 @@ pub fn delete(slots: &mut [u32], counters: &mut [u32], items: &mut [u64], animal
     ensures { λ r. ⌜ WholeAs (mem (now (slots .entry)) (now (counters .entry)) (now (items .entry))) (delete animal)
         (mem (now (slots .exit)) (now (counters .exit)) (now (items .exit))) (said-deleting r) ⌝ }
 {
-    let no = reading::refused_early(slots.len(), counters.len(), items.len(), animal, false);
+    let no = looking::refused_early(slots.len(), counters.len(), items.len(), animal, false);
     if no != 0 {
         return Deleting::Refused(no);
     }
-    let looked = reading::look_up(slots, counters, items, animal);
+    let looked = looking::look_up(slots, counters, items, animal);
     delete_looked(slots, counters, items, animal, looked, 18446744073709551615)
 }

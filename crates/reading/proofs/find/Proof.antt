@@ -1,8 +1,8 @@
 -- `reading::find` meets its contract: one law a way out. Assumes nothing.
 use native.Mathlib.Omega.{arith}
 use Rattle.model.specs.Memory.{mem}
-use Rattle.reading.proofs.Asked.{small}
-use Rattle.reading.proofs.Looking.{find-passed, find-early, find-busy, find-hurt, find-absent, find-held}
+use Rattle.looking.proofs.Asked.{passed-lengths, small}
+use Rattle.reading.proofs.Finding.{find-early, find-busy, find-hurt, find-absent, find-held}
 use borrow.Author.Needs.{needs}
 use Rattle.reading.proofs.find.Statement.{statement}
 use Rattle.reading.proofs.find.Tie as tie
@@ -14,7 +14,7 @@ returns : tie.Need-returns
 returns c = search find-early
 
 homes-in-requires : tie.Need-homes-in-requires
-homes-in-requires c κs = search find-passed
+homes-in-requires c κs = search passed-lengths
 
 is-odd-requires : tie.Need-is-odd-requires
 is-odd-requires c κs = search needs
@@ -32,7 +32,7 @@ cast-m c =
       fits = omega (
         arith,
         small (mem (s .args .slots .now) (s .args .counters .now) (s .args .items .now))
-            (find-passed (mem (s .args .slots .now) (s .args .counters .now) (s .args .items .now)) (s .args .animal) (c .before .before .before .before .before .refused-early .ensures) (c .before .before .before .before .if1 .left)) .places-small,
+            (passed-lengths (mem (s .args .slots .now) (s .args .counters .now) (s .args .items .now)) (s .args .animal) (c .before .before .before .before .before .refused-early .ensures) (c .before .before .before .before .if1 .left)) .places-small,
       );
     }
 

@@ -1,5 +1,5 @@
 -- `reading::judged` meets its contract. Assumes nothing.
-use Rattle.reading.proofs.Asked.{says-standing, says-ahead, says-young, says-old}
+use Rattle.reading.proofs.Reading.{says-standing, says-ahead, says-young, says-old}
 use borrow.Author.Needs.{needs}
 use Rattle.reading.proofs.judged.Statement.{statement}
 use Rattle.reading.proofs.judged.Tie as tie

@@ -1,5 +1,4 @@
 -- `reading::judged_at` meets its contract. Assumes nothing.
-use mathlib.Core.Path.{ap₂, _∙_}
 use borrow.Author.Needs.{needs}
 use Rattle.reading.proofs.judged_at.Statement.{statement}
 use Rattle.reading.proofs.judged_at.Tie as tie

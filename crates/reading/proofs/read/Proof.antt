@@ -1,5 +1,5 @@
 -- `reading::read` meets its contract. Assumes nothing.
-use Rattle.reading.proofs.Asked.{early-passed}
+use Rattle.looking.proofs.Asked.{early-passed}
 use Rattle.reading.proofs.Reading.{read-early}
 use borrow.Author.Needs.{needs}
 use Rattle.reading.proofs.read.Statement.{statement}

@@ -1,7 +1,7 @@
 -- `reading::read_good` meets its contract: one law a way out. Assumes nothing.
 use native.Mathlib.Omega.{arith}
 use Rattle.model.specs.Memory.{mem}
-use Rattle.reading.proofs.Asked.{small}
+use Rattle.looking.proofs.Asked.{small}
 use Rattle.reading.proofs.Reading.{read-busy, read-hurt, read-absent, read-held}
 use borrow.Author.Needs.{needs}
 use Rattle.reading.proofs.read_good.Statement.{statement}

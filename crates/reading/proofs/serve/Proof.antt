@@ -1,5 +1,5 @@
 -- `reading::serve` meets its contract. Assumes nothing.
-use Rattle.reading.proofs.Asked.{early-passed}
+use Rattle.looking.proofs.Asked.{early-passed}
 use Rattle.reading.proofs.Reading.{serve-early}
 use borrow.Author.Needs.{needs}
 use Rattle.reading.proofs.serve.Statement.{statement}

@@ -2,7 +2,7 @@
 use mathlib.Core.Path.{refl}
 use native.Mathlib.Omega.{arith}
 use Rattle.model.specs.Memory.{mem}
-use Rattle.reading.proofs.Asked.{small}
+use Rattle.looking.proofs.Asked.{small}
 use Rattle.reading.proofs.Reading.{serve-busy, serve-hurt, serve-absent, serve-held}
 use borrow.Author.Needs.{needs}
 use Rattle.reading.proofs.serve_good.Statement.{statement}

@@ -2,7 +2,7 @@
 use native.Mathlib.Omega.{arith}
 use mathlib.Core.Path.{refl}
 use Rattle.model.specs.Memory.{mem}
-use Rattle.reading.proofs.Asked.{small}
+use Rattle.looking.proofs.Asked.{small}
 use Rattle.setting.proofs.Entering.{moves-in, enter-damaged, enter-nowhere, enter-room}
 use borrow.Author.Needs.{needs}
 use Rattle.setting.proofs.enter_found.Statement.{statement}

@@ -2,7 +2,7 @@
 use native.Mathlib.Omega.{arith}
 use mathlib.Core.Path.{refl}
 use Rattle.model.specs.Memory.{mem}
-use Rattle.reading.proofs.Asked.{small}
+use Rattle.looking.proofs.Asked.{small}
 use Rattle.setting.proofs.Entering.{asked-is, items-are, new-full, new-searched, new-entered}
 use borrow.Author.Needs.{needs}
 use Rattle.setting.proofs.enter_new.Statement.{statement}

@@ -1,5 +1,5 @@
 -- `writing::delete` meets its contract: a cut behind the last store. Assumes nothing.
-use Rattle.reading.proofs.Looking.{find-passed}
+use Rattle.looking.proofs.Asked.{passed-lengths}
 use Rattle.writing.proofs.Laws.{delete-early, delete-passed, whole-delete}
 use borrow.Author.Needs.{needs}
 use Rattle.writing.proofs.delete.Statement.{statement}
@@ -12,7 +12,7 @@ returns : tie.Need-returns
 returns c = whole-delete (search delete-early)
 
 look-up-requires : tie.Need-look-up-requires
-look-up-requires c κs = search find-passed
+look-up-requires c κs = search passed-lengths
 
 delete-looked-requires : tie.Need-delete-looked-requires
 delete-looked-requires c κs = (search delete-passed, search needs)

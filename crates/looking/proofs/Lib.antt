@@ -1,0 +1,3 @@
+pub mod Laws
+pub mod Asked
+pub mod Looking
