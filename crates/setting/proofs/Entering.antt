@@ -37,7 +37,8 @@ use Rattle.looking.proofs.Looking.{look-holds, look-lacks, look-refused}
 use Rattle.searching.proofs.Laws.{RoomFound, damaged-found, nowhere-found, room-found, room-inside}
 use Rattle.model.proofs.Search.{length-climb}
 use Rattle.model.proofs.Lent.{fit, four-sizes, law}
-use Rattle.setting.specs.Enter.{Does, Homed, MovesIn, Searched, entering, entering-new, plain-moves, updating}
+use Rattle.moving.specs.Moves.{MovesIn, plain-moves}
+use Rattle.setting.specs.Enter.{Does, Homed, Searched, entering, entering-new, updating}
 use Rattle.searching.specs.declared.Move.{Move as Tagged}
 use Rattle.searching.specs.declared.Found.{Found}
 use Rattle.searching.specs.declared.Ending.the-variants as ending

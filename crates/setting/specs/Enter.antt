@@ -1,42 +1,19 @@
 -- What set's inner steps take and promise. Assumes nothing.
-use Prim.Native.Nat.{ℕ, _<_, _≤_, _/_}
+use Prim.Native.Nat.{ℕ, _<_, _/_}
 use mathlib.Core.Path.{_≡_}
 use mathlib.Core.Bool.{true}
 use mathlib.Core.Option.{Option}
-use mathlib.Core.List.{List, [], _∷_}
-use lib.ListN.{length, getD}
+use mathlib.Core.List.{[], _∷_}
+use lib.ListN.{length}
 use Rattle.searching.specs.Search.{FoundIs}
 use Rattle.looking.specs.Look.{HomesIn}
 use Rattle.model.specs.Memory.{Mem, place}
-use Rattle.model.specs.Hash.{Size}
 use Rattle.model.specs.Yard.{right-lengths, sizes, yard-of}
 use Rattle.model.specs.Stores.{cut-stores, update}
-use Rattle.model.specs.Moves.{Move}
 use Rattle.model.specs.Answers.{Answer, stored}
 use Rattle.model.specs.Calls.{Outcome, enter-at, vacant-place}
-use Rattle.searching.specs.declared.Move.{Move as Tagged}
 use Rattle.searching.specs.declared.Found.{Found}
 use Rattle.hashing.specs.declared.Homes.{Homes}
-
--- a move can be made: n buckets, v counters, and a source slot within any table's slots
-pub record Movable (n v from : ℕ) : Type 0 where
-  pub size : Size n
-  pub some : 0 < v
-  pub few : v ≤ 1024
-  pub inside : from < 8192
-
--- the moves of a plan as the model has them: source and destination slot
-abbrev pub plain-moves : List Tagged → List Move
-plain-moves [] = []
-plain-moves (v ∷ vs) = record { from = v .from; to = v .to } ∷ plain-moves vs
-
--- the first count of the moves can be made
-pub record MovesIn (n v : ℕ) (ms : List Tagged) (count : ℕ) : Type 0 where
-  pub size : Size n
-  pub some : 0 < v
-  pub few : v ≤ 1024
-  pub four : count ≤ 4
-  pub sources : (j : ℕ) → j < count → (d : Tagged) → getD ms j d .from < 8192
 
 -- an outcome of which the first k stores took the memory m to m′, with the answer a
 pub record Does (o : Outcome) (k : ℕ) (m m′ : Mem) (a : Answer) : Type 0 where

@@ -1,8 +1,8 @@
--- `setting::move_one` meets its contract. Assumes nothing.
-use Rattle.setting.proofs.Moving.{one-move}
+-- `moving::move_one` meets its contract. Assumes nothing.
+use Rattle.moving.proofs.Moving.{one-move}
 use borrow.Author.Needs.{needs}
-use Rattle.setting.proofs.move_one.Statement.{statement}
-use Rattle.setting.proofs.move_one.Tie as tie
+use Rattle.moving.proofs.move_one.Statement.{statement}
+use Rattle.moving.proofs.move_one.Tie as tie
 
 get32-requires : tie.Need-get32-requires
 get32-requires c κs = search needs

@@ -1,4 +1,4 @@
--- `setting::make_moves` meets its contract: what is still to be made comes to the whole. Assumes nothing.
+-- `moving::make_moves` meets its contract: what is still to be made comes to the whole. Assumes nothing.
 use borrow.Author.Needs.{needs}
 use native.Mathlib.Omega.{arith}
 use Prim.Native.Nat.{ℕ, _≤_, _-_}
@@ -10,10 +10,10 @@ use Rattle.model.specs.Yard.{yard}
 use Rattle.model.specs.Stores.{stores}
 use Rattle.model.specs.Calls.{move-blocks}
 use Rattle.storing.specs.Made.{Made}
-use Rattle.setting.specs.Enter.{plain-moves}
-use Rattle.setting.proofs.Moving.{moves-step, moves-done}
-use Rattle.setting.proofs.make_moves.Statement.{statement}
-use Rattle.setting.proofs.make_moves.Tie as tie
+use Rattle.moving.specs.Moves.{plain-moves}
+use Rattle.moving.proofs.Moving.{moves-step, moves-done}
+use Rattle.moving.proofs.make_moves.Statement.{statement}
+use Rattle.moving.proofs.make_moves.Tie as tie
 
 abbrev Inv-loop : tie.InvT-loop
 Inv-loop slots₀ counters₀ n count left moves l₀ j₀ slots counters l j =

@@ -1,9 +1,9 @@
--- `setting::get32` meets its contract. Assumes nothing.
+-- `moving::get32` meets its contract. Assumes nothing.
 use mathlib.Core.Path.{sym}
 use lib.ListN.{List·getD-eq-default}
 use borrow.Author.Needs.{needs}
-use Rattle.setting.proofs.get32.Statement.{statement}
-use Rattle.setting.proofs.get32.Tie as tie
+use Rattle.moving.proofs.get32.Statement.{statement}
+use Rattle.moving.proofs.get32.Tie as tie
 
 mul-result : tie.Need-mul-result
 mul-result c = search needs

@@ -18,7 +18,7 @@ use Rattle.model.specs.Moves.{Move, moved}
 use Rattle.model.specs.Calls.{move-block, move-blocks}
 use Rattle.storing.proofs.Laws.{made-append, made-nil}
 use Rattle.searching.proofs.Visits.{vs}
-use Rattle.setting.specs.Enter.{plain-moves}
+use Rattle.moving.specs.Moves.{plain-moves}
 use Rattle.searching.specs.declared.Move.{Move as Tagged}
 
 -- with nothing left, any stores are made by none
