@@ -1,12 +1,12 @@
 -- What the search comes to, in the model's words. Assumes nothing.
 use Prim.Native.Nat.{ℕ, _+_, _-_, _*_, _<_}
 use mathlib.Core.Path.{_≡_}
-use mathlib.Core.Bool.{Bool, _&&_}
+use mathlib.Core.Bool.{Bool, _&&_, _||_}
 use mathlib.Core.List.{List, [], _∷_, _++_, map}
 use lib.ListN.{length, getD, replicate}
 use lib.Dec.{eqb}
 use Rattle.model.specs.Choice.{choose}
-use Rattle.model.specs.Memory.{tag}
+use Rattle.model.specs.Memory.{damaged, tag}
 use Rattle.model.specs.Hash.{Size, other-bucket}
 use Rattle.model.specs.Yard.{Layout}
 use Rattle.model.specs.Moves.{Move}
@@ -81,3 +81,9 @@ words-of T b = getD T (b * 4) 0 ∷ getD T (b * 4 + 1) 0 ∷ getD T (b * 4 + 2) 
 -- the lowest free slot after slot j with the word w, where it was `free` before: 4 if there is none
 abbrev pub lower : ℕ → ℕ → ℕ → ℕ
 lower free j w = choose (eqb w 0 && eqb free 4) j free
+
+-- the lowest free slot by the four words of a bucket; 4 if there is none, or one of the words is damaged among m places
+abbrev pub free-among : ℕ → List ℕ → ℕ
+free-among m w =
+    choose ((damaged m (getD w 0 0) || damaged m (getD w 1 0)) || (damaged m (getD w 2 0) || damaged m (getD w 3 0))) 4
+    (lower (lower (lower (lower 4 0 (getD w 0 0)) 1 (getD w 1 0)) 2 (getD w 2 0)) 3 (getD w 3 0))

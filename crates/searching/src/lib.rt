@@ -4,7 +4,7 @@ ghost use Prim.Native.Nat.{_+_, _*_, _<_, _≤_};
 ghost use lib.ListN.{length};
 ghost use Rattle.model.specs.Memory.{tag, damaged};
 ghost use Rattle.model.specs.Hash.{Size, other-bucket};
-ghost use Rattle.searching.specs.Search.{Asked, FoundIs, lower, no-room, words-of};
+ghost use Rattle.searching.specs.Search.{Asked, FoundIs, free-among, lower, no-room, words-of};
 
 // A move: the slot that it empties, the tag of the entry there, and the slot that the entry goes to.
 pub struct Move {
@@ -108,8 +108,8 @@ fn slot_in(b: u16, s: usize) -> usize
     (b as usize) * 4 + s
 }
 
-// Room for an entry whose buckets are `first` and `second`, among n buckets and m places.
-pub fn search(slots: &[u32], n: u32, m: u32, first: u32, second: u32) -> Found
+// The search along the visit list, from both home buckets.
+fn search_list(slots: &[u32], n: u32, m: u32, first: u32, second: u32) -> Found
     requires { ⌜ Asked (now slots) n first second ⌝ }
     ensures { λ r. ⌜ FoundIs n m (now (slots .entry)) first second r ⌝ }
 {
@@ -185,4 +185,43 @@ pub fn search(slots: &[u32], n: u32, m: u32, first: u32, second: u32) -> Found
         v += 1;
     }
     found
+}
+
+// The lowest free slot of bucket b, or 4: it has none, or a damaged word.
+fn free_at(slots: &[u32], b: u32, m: u32) -> usize
+    requires { ⌜ b * 4 + 4 ≤ length (now slots) ⌝ }
+    ensures { λ r. ⌜ r ≡ free-among m (words-of (now (slots .entry)) b) ⌝ }
+{
+    let w = words_at(slots, b);
+    let near = is_damaged(w[0], m) | is_damaged(w[1], m);
+    let far = is_damaged(w[2], m) | is_damaged(w[3], m);
+    if near | far {
+        return 4;
+    }
+    let a = first_free(4, 0, w[0]);
+    let c = first_free(a, 1, w[1]);
+    let d = first_free(c, 2, w[2]);
+    first_free(d, 3, w[3])
+}
+
+// Room for an entry whose buckets are `first` and `second`, among n buckets and m places. Mostly the first has it, and then no queue is made.
+pub fn search(slots: &[u32], n: u32, m: u32, first: u32, second: u32) -> Found
+    requires { ⌜ Asked (now slots) n first second ⌝ }
+    ensures { λ r. ⌜ FoundIs n m (now (slots .entry)) first second r ⌝ }
+{
+    let free = free_at(slots, first, m);
+    if 4 <= free {
+        return search_list(slots, n, m, first, second);
+    }
+    let none = Move {
+        from: 0,
+        tag: 0,
+        to: 0,
+    };
+    Found {
+        ending: Ending::Room { visits: 1 },
+        count: 0,
+        moves: [none; 4],
+        slot: (first as usize) * 4 + free,
+    }
 }
