@@ -50,8 +50,8 @@ fn put_number(out: &mut [u8], at: usize, x: u64) -> usize
     requires { ⌜ Room at (now out) ⌝ }
     ensures { λ r. ⌜ Room r (now (out .entry)) ⌝ }
 {
-    let digits = language::put_bytes(out, at, b" ");
-    let next = language::put_decimal(out, digits, x);
+    let digits = words::put_bytes(out, at, b" ");
+    let next = words::put_decimal(out, digits, x);
     with_room(out, next)
 }
 
@@ -86,11 +86,11 @@ fn dump(slots: &[u32], counters: &[u32], items: &[u64], out: &mut [u8], at: usiz
     requires { ⌜ Room at (now out) ⌝ }
     ensures { λ r. ⌜ Room r (now (out .entry)) ⌝ }
 {
-    let a = language::put_bytes(out, at, b"slots");
+    let a = words::put_bytes(out, at, b"slots");
     let b = dump32(out, with_room(out, a), slots);
-    let c = language::put_bytes(out, b, b"counters");
+    let c = words::put_bytes(out, b, b"counters");
     let d = dump32(out, with_room(out, c), counters);
-    let e = language::put_bytes(out, d, b"items");
+    let e = words::put_bytes(out, d, b"items");
     dump64(out, with_room(out, e), items)
 }
 
@@ -99,7 +99,7 @@ fn put_record_byte(out: &mut [u8], at: usize, b: u8, is_last: bool) -> usize
     requires { ⌜ Room at (now out) ⌝ }
     ensures { λ r. ⌜ Room r (now (out .entry)) ⌝ }
 {
-    let next = language::put_hex_byte(out, at, b);
+    let next = words::put_hex_byte(out, at, b);
     if is_last {
         let end = telling::put_line(out, next, b"");
         return with_room(out, end);
@@ -517,7 +517,7 @@ fn piece_at(text: &[u8], from: usize) -> Piece
     requires { ⌜ from < length (now text) ⌝ }
     ensures { λ r. ⌜ PieceAt from (now (text .entry)) r ⌝ }
 {
-    let end = language::line_end(text, from);
+    let end = words::line_end(text, from);
     if end < text.len() {
         return Piece { end, next: end + 1 };
     }
