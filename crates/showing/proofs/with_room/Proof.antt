@@ -1,8 +1,8 @@
--- `replaying::with_room` meets its contract. Assumes nothing.
-use Rattle.replaying.proofs.Front.{front}
+-- `showing::with_room` meets its contract. Assumes nothing.
+use Rattle.showing.proofs.Front.{front}
 use borrow.Author.Needs.{needs}
-use Rattle.replaying.proofs.with_room.Statement.{statement}
-use Rattle.replaying.proofs.with_room.Tie as tie
+use Rattle.showing.proofs.with_room.Statement.{statement}
+use Rattle.showing.proofs.with_room.Tie as tie
 
 sub-if1 : tie.Need-sub-if1
 sub-if1 c = search needs

@@ -1,8 +1,8 @@
--- `replaying::poke32` meets its contract. Assumes nothing.
-use Rattle.replaying.proofs.Poke.{poke-outside, poke-large, poke-made}
+-- `showing::poke32` meets its contract. Assumes nothing.
+use Rattle.showing.proofs.Poke.{poke-outside, poke-large, poke-made}
 use borrow.Author.Needs.{needs}
-use Rattle.replaying.proofs.poke32.Statement.{statement}
-use Rattle.replaying.proofs.poke32.Tie as tie
+use Rattle.showing.proofs.poke32.Statement.{statement}
+use Rattle.showing.proofs.poke32.Tie as tie
 
 returns : tie.Need-returns
 returns c = search poke-outside

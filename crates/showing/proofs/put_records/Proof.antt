@@ -1,10 +1,10 @@
--- `replaying::put_records` meets its contract. Assumes nothing.
+-- `showing::put_records` meets its contract. Assumes nothing.
 use Prim.Native.Nat.{_+_, _-_, _≤_}
 use mathlib.Core.Path.{_≡_}
 use lib.ListN.{length}
 use borrow.Author.Needs.{needs}
-use Rattle.replaying.proofs.put_records.Statement.{statement}
-use Rattle.replaying.proofs.put_records.Tie as tie
+use Rattle.showing.proofs.put_records.Statement.{statement}
+use Rattle.showing.proofs.put_records.Tie as tie
 
 abbrev Inv-loop : tie.InvT-loop
 Inv-loop out₀ at records n next₀ i₀ out next i = (length out ≡ length out₀) × ((next + 96 ≤ length out) × (i ≤ length records))

@@ -1,10 +1,10 @@
--- `replaying::dump64` meets its contract. Assumes nothing.
+-- `showing::dump64` meets its contract. Assumes nothing.
 use Prim.Native.Nat.{_+_, _-_, _≤_}
 use mathlib.Core.Path.{_≡_}
 use lib.ListN.{length}
 use borrow.Author.Needs.{needs}
-use Rattle.replaying.proofs.dump64.Statement.{statement}
-use Rattle.replaying.proofs.dump64.Tie as tie
+use Rattle.showing.proofs.dump64.Statement.{statement}
+use Rattle.showing.proofs.dump64.Tie as tie
 
 abbrev Inv-loop : tie.InvT-loop
 Inv-loop out₀ at words next₀ i₀ t6 out next i = (length out ≡ length out₀) × ((next + 96 ≤ length out) × (i ≤ length words))

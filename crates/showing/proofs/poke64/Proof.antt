@@ -1,8 +1,8 @@
--- `replaying::poke64` meets its contract. Assumes nothing.
-use Rattle.replaying.proofs.Poke.{poke-outside, poke-fits}
+-- `showing::poke64` meets its contract. Assumes nothing.
+use Rattle.showing.proofs.Poke.{poke-outside, poke-fits}
 use borrow.Author.Needs.{needs}
-use Rattle.replaying.proofs.poke64.Statement.{statement}
-use Rattle.replaying.proofs.poke64.Tie as tie
+use Rattle.showing.proofs.poke64.Statement.{statement}
+use Rattle.showing.proofs.poke64.Tie as tie
 
 returns : tie.Need-returns
 returns c = search poke-outside

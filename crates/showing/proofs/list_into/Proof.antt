@@ -1,8 +1,8 @@
--- `replaying::list_into` meets its contract. Assumes nothing.
-use Rattle.replaying.proofs.Front.{front}
+-- `showing::list_into` meets its contract. Assumes nothing.
+use Rattle.showing.proofs.Front.{front}
 use borrow.Author.Needs.{needs}
-use Rattle.replaying.proofs.list_into.Statement.{statement}
-use Rattle.replaying.proofs.list_into.Tie as tie
+use Rattle.showing.proofs.list_into.Statement.{statement}
+use Rattle.showing.proofs.list_into.Tie as tie
 
 not-understood-requires : tie.Need-not-understood-requires
 not-understood-requires c κs = search needs
