@@ -6,7 +6,7 @@ use Rattle.model.specs.Memory.{Mem, mem}
 use Rattle.model.specs.Answers.{Answer, Call, evict, hand-back}
 use Rattle.model.specs.Said.{said-reading, said-evicting}
 use Rattle.model.specs.declared.Reading.{Reading}
-use Rattle.language.specs.Print.{Put}
+use Rattle.words.specs.Print.{Put}
 use Rattle.reading.specs.Serve.{Served}
 use Rattle.writing.specs.Wrote.{CutAs, WholeAs}
 use Rattle.evicting.specs.declared.Turned.{Turned}

@@ -6,7 +6,7 @@ use Rattle.model.specs.Memory.{Mem}
 use Rattle.model.specs.Yard.{sizes}
 use Rattle.model.specs.Answers.{Answer, Call}
 use Rattle.model.specs.Lent.{lent-after, lent-call, lent-cut}
-use Rattle.language.specs.Print.{Put}
+use Rattle.words.specs.Print.{Put}
 use Rattle.telling.specs.Text.{text}
 
 -- the line of answer a stands in the buffer from a position on, r is the position behind it, at most 96 bytes on

@@ -64,7 +64,7 @@ fn say_evicting(said: Evicting, hand: u64) {
 // The two hexadecimal digits of a byte.
 fn say_byte(b: u8) {
     let mut two = [0u8; 2];
-    language::put_hex_byte(&mut two, 0, b);
+    words::put_hex_byte(&mut two, 0, b);
     say(&two);
 }
 

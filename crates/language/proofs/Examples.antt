@@ -1,10 +1,9 @@
 -- Lines and what they mean, by computation. Assumes nothing.
 use mathlib.Core.Path.{_≡_, refl}
 use mathlib.Core.Bool.{true, false}
-use Rattle.language.specs.Text.{bytes}
-use Rattle.language.specs.Words.{all-digits, before, filled, number, number-from, pieces, same, value, without-comment, without-return, words}
+use Rattle.words.specs.Text.{bytes}
+use Rattle.words.specs.Words.{all-digits, before, filled, number, number-from, pieces, same, value, without-comment, without-return, words}
 use Rattle.language.specs.Line.{call, cut-call, entry, line-of, maybe-standing, meaning, one, other-call, poke-call, three, two, up-to}
-use Rattle.language.specs.Print.{decimal-of, digits, hex-digit, hex-of}
 use Rattle.language.specs.declared.Line.the-variants as line
 
 pub understood :
@@ -58,9 +57,3 @@ pub not-understood :
     × (line-of (bytes "poke 0 9") ≡ line.NotUnderstood)
 unfolding line-of meaning call other-call cut-call poke-call entry maybe-standing three two one up-to words pieces filled before same number number-from value all-digits without-comment without-return
 not-understood = (refl, refl, refl, refl, refl, refl, refl, refl, refl, refl, refl, refl, refl, refl, refl, refl, refl, refl)
-
-pub printed :
-    (decimal-of 0 ≡ bytes "0") × (decimal-of 10 ≡ bytes "10") × (decimal-of 18446744073709551615 ≡ bytes "18446744073709551615")
-    × (hex-of 9 ≡ bytes "09") × (hex-of 175 ≡ bytes "af")
-unfolding decimal-of digits hex-of hex-digit
-printed = (refl, refl, refl, refl, refl)

@@ -8,15 +8,16 @@ use mathlib.Core.List.{List, [], _∷_}
 use lib.ListN.{length, getD, take, drop}
 use lib.Seq.{length-take-le, take-length}
 use borrow.Author.Tests.{eq-eqb, ne-eqb, not-true, not-false}
-use Rattle.language.specs.Text.{bytes}
-use Rattle.language.specs.Words.{before, choose, is-comment, same, without-comment, without-return, words}
+use Rattle.words.specs.Text.{bytes}
+use Rattle.words.specs.Words.{before, choose, is-comment, same, without-comment, without-return, words}
 use Rattle.language.specs.Line.{call, cut-call, ends, entry, largest, largest-buffer}
 use Rattle.language.specs.Line.{line-of, meaning, one, other-call, poke-call, three, two, up-to}
-use Rattle.language.specs.Cursor.{EntryAt, First, NextNumber, NextWord, OneNumber, ThreeNumbers, TwoNumbers, WithoutReturn, none-left, part}
-use Rattle.language.proofs.Scan.{before-take}
+use Rattle.words.specs.Cursor.{First, NextWord, none-left, part}
+use Rattle.language.specs.Cursor.{EntryAt, NextNumber, OneNumber, ThreeNumbers, TwoNumbers, WithoutReturn}
+use Rattle.words.proofs.Scan.{before-take}
 use Rattle.language.specs.declared.Line.{Line}
 use Rattle.language.specs.declared.Line.the-variants as line
-use Rattle.language.specs.declared.Word.{Word}
+use Rattle.words.specs.declared.Word.{Word}
 use Rattle.language.specs.declared.Taken.{Taken}
 use Rattle.language.specs.declared.One.{One}
 use Rattle.language.specs.declared.Two.{Two}

@@ -6,19 +6,17 @@ use mathlib.Core.Logic.{_≢_}
 use mathlib.Core.Bool.{Bool, true, false, _&&_}
 use mathlib.Core.List.{List, [], _∷_}
 use lib.ListN.{length, drop}
-use lib.Dec.{eqb}
-use borrow.Author.Tests.{eqb-true, eqb-false}
-use Rattle.language.specs.Text.{bytes}
-use Rattle.language.specs.Words.{choose, number, same, words}
+use Rattle.words.specs.Text.{bytes}
+use Rattle.words.specs.Words.{choose, number, same, words}
 use Rattle.language.specs.Line.{ends, entry, given, largest, largest-permission, maybe-standing, one, three, two, up-to}
-use Rattle.language.specs.Cursor.{EntryAt, NextNumber, NextWord, OneNumber, PerhapsStanding, ThreeNumbers, TwoNumbers, none-left, part, told}
-use Rattle.language.proofs.Scan.{bool}
-use Rattle.language.proofs.OneWord.{number-small}
+use Rattle.words.specs.Cursor.{NextWord, none-left, part, told}
+use Rattle.language.specs.Cursor.{EntryAt, NextNumber, OneNumber, PerhapsStanding, ThreeNumbers, TwoNumbers}
+use Rattle.words.proofs.OneWord.{number-small}
 use Rattle.language.specs.declared.Line.{Line}
 use Rattle.language.specs.declared.Line.the-variants as line
-use Rattle.language.specs.declared.Word.{Word}
-use Rattle.language.specs.declared.Number.{Number}
-use Rattle.language.specs.declared.Number.the-variants as numbers
+use Rattle.words.specs.declared.Word.{Word}
+use Rattle.words.specs.declared.Number.{Number}
+use Rattle.words.specs.declared.Number.the-variants as numbers
 use Rattle.language.specs.declared.Taken.{Taken}
 use Rattle.language.specs.declared.One.{One}
 use Rattle.language.specs.declared.Two.{Two}
@@ -50,12 +48,6 @@ module _ {bs : List ℕ} {at : ℕ} {w : Word} (inside : at ≤ length bs) (next
           inside = inside;
           taken = λ f. by-told f ∙ ap (λ (k : Number). given (told k) f (words (drop (w .end) bs))) e;
         }
-
--- no word is left
-pub at-end : {bs : List ℕ} {at : ℕ} {w : Word} → NextWord bs at w → eqb (w .start) (w .end) ≡ none-left (words (drop at bs))
-at-end {bs} {at} {w} next =
-    bool (λ t. t ≡ none-left (words (drop at bs))) (eqb (w .start) (w .end)) (λ e. rw (next .none-left (eqb-true (w .start) (w .end) e)))
-    λ e. rw (next .next-word (eqb-false (w .start) (w .end) e))
 
 ends-is : (l : Line) (ws : List (List ℕ)) {d : Bool} → d ≡ none-left ws → ends l ws ≡ choose d l line.NotUnderstood
 ends-is l [] e = rw e

@@ -1,18 +1,13 @@
--- What the code's steps along a line say of its words. Assumes nothing.
-use Prim.Native.Nat.{ℕ, _+_, _-_, _≤_}
+-- What the code's steps along a line say of what it means. Assumes nothing.
+use Prim.Native.Nat.{ℕ, _≤_}
 use mathlib.Core.Path.{_≡_}
-use mathlib.Core.Logic.{_≢_}
-use mathlib.Core.Bool.{Bool, true, false}
-use mathlib.Core.Option.{Option, none, some}
-use mathlib.Core.List.{List, [], _∷_}
+use mathlib.Core.Bool.{Bool}
+use mathlib.Core.List.{List}
 use lib.ListN.{length, take, drop}
-use Rattle.language.specs.Words.{before, choose, without-return, words}
+use Rattle.words.specs.Words.{choose, without-return, words}
 use Rattle.language.specs.Line.{entry, maybe-standing, one, three, two, up-to}
 use Rattle.language.specs.declared.Line.{Line}
 use Rattle.language.specs.declared.Line.the-variants as line
-use Rattle.language.specs.declared.Word.{Word}
-use Rattle.language.specs.declared.Number.{Number}
-use Rattle.language.specs.declared.Number.the-variants as number
 use Rattle.language.specs.declared.Taken.{Taken}
 use Rattle.language.specs.declared.One.{One}
 use Rattle.language.specs.declared.Two.{Two}
@@ -20,31 +15,10 @@ use Rattle.language.specs.declared.Three.{Three}
 use Rattle.language.specs.declared.Standing.{Standing}
 use Rattle.language.specs.declared.Entry.{Entry}
 
--- the first position from at on whose byte passes a test, or the length
-pub record First (f : ℕ → Bool) (bs : List ℕ) (at r : ℕ) : Type 0 where
-  pub first : r ≡ at + length (before f (drop at bs))
-  pub inside : r ≤ length bs
-
 -- the length of a line without a CR at its end
 pub record WithoutReturn (bs : List ℕ) (r : ℕ) : Type 0 where
   pub kept : take r bs ≡ without-return bs
   pub inside : r ≤ length bs
-
--- the bytes of a line from s up to e
-abbrev pub part : List ℕ → ℕ → ℕ → List ℕ
-part bs s e = take (e - s) (drop s bs)
-
--- the next word from a position on: none if it is empty, and else the first of the words there, with the others behind it
-pub record NextWord (bs : List ℕ) (at : ℕ) (r : Word) : Type 0 where
-  pub forward : r .start ≤ r .end
-  pub inside : r .end ≤ length bs
-  pub none-left : r .start ≡ r .end → words (drop at bs) ≡ []
-  pub next-word : r .start ≢ r .end → words (drop at bs) ≡ part bs (r .start) (r .end) ∷ words (drop (r .end) bs)
-
--- a number as the code says it
-abbrev pub told : Number → Option ℕ
-told (number.Value v) = some v
-told number.Not = none
 
 -- the number in the next word from a position on, if it is one of at most top, and the position behind it
 pub record NextNumber (bs : List ℕ) (at top : ℕ) (r : Taken) : Type 0 where
@@ -52,11 +26,6 @@ pub record NextNumber (bs : List ℕ) (at top : ℕ) (r : Taken) : Type 0 where
   pub inside : r .next ≤ length bs
   pub taken : (f : ℕ → List (List ℕ) → Line)
       → up-to top f (words (drop at bs)) ≡ choose (r .good) (f (r .value) (words (drop (r .next) bs))) line.NotUnderstood
-
--- whether no word is left
-abbrev pub none-left : List (List ℕ) → Bool
-none-left [] = true
-none-left (w ∷ ws) = false
 
 -- one number and no more, if it is good; two; three
 pub record OneNumber (bs : List ℕ) (at top : ℕ) (r : One) : Type 0 where

@@ -3,8 +3,8 @@ use Prim.Native.Nat.{ℕ}
 use mathlib.Core.Bool.{Bool, true, false}
 use mathlib.Core.Option.{Option, none, some}
 use mathlib.Core.List.{List, [], _∷_}
-use Rattle.language.specs.Text.{bytes}
-use Rattle.language.specs.Words.{choose, number, same, without-comment, without-return, words}
+use Rattle.words.specs.Text.{bytes}
+use Rattle.words.specs.Words.{choose, number, same, without-comment, without-return, words}
 use Rattle.language.specs.declared.Line.{Line}
 use Rattle.language.specs.declared.Line.the-variants as line
 

@@ -1,13 +1,13 @@
-// The replay program's language: what a line says, and the bytes of an answer. No input or output.
+// The replay program's language: what a line says. No input or output.
 ghost use mathlib.Core.Path.{_≡_};
-ghost use Prim.Native.Nat.{_+_, _%_, _<_, _≤_};
+ghost use Prim.Native.Nat.{_≤_};
 ghost use lib.ListN.{length, drop};
-ghost use Rattle.language.specs.Words.{is-end, is-comment, is-gap, is-no-gap, words, same, number};
+ghost use Rattle.words.specs.Words.{words};
 ghost use Rattle.language.specs.Line.{largest, largest-buffer, ends, up-to, one, two, three, entry};
 ghost use Rattle.language.specs.Line.{cut-call, poke-call, other-call, call, meaning, line-of};
-ghost use Rattle.language.specs.Cursor.{First, WithoutReturn, NextWord, NextNumber, told, none-left};
+ghost use Rattle.language.specs.Cursor.{WithoutReturn, NextNumber};
 ghost use Rattle.language.specs.Cursor.{OneNumber, TwoNumbers, ThreeNumbers, PerhapsStanding, EntryAt};
-ghost use Rattle.language.specs.Print.{decimal-of, hex-digit, hex-of, Put};
+use words::Number;
 
 // A line of the replay program.
 pub enum Line {
@@ -79,146 +79,6 @@ const LARGEST_PERMISSION: u64 = 4294967295;
 
 const LARGEST_BUFFER: u64 = 81920;
 
-// The first LF at or after `at`, or the length.
-pub fn line_end(text: &[u8], at: usize) -> usize
-    requires { ⌜ at ≤ length (now text) ⌝ }
-    ensures { λ r. ⌜ First is-end (now (text .entry)) at r ⌝ }
-{
-    let mut i = at;
-    while i < text.len() {
-        if text[i] == b'\n' {
-            return i;
-        }
-        i += 1;
-    }
-    i
-}
-
-// The first comment sign, or the length.
-fn comment_start(text: &[u8]) -> usize
-    ensures { λ r. ⌜ First is-comment (now (text .entry)) 0 r ⌝ }
-{
-    let mut i: usize = 0;
-    while i < text.len() {
-        if text[i] == b'#' {
-            return i;
-        }
-        i += 1;
-    }
-    i
-}
-
-fn is_space_or_tab(b: u8) -> bool
-    ensures { λ r. ⌜ r ≡ is-gap b ⌝ }
-{
-    (b == b' ') | (b == b'\t')
-}
-
-// The first byte at or after `at` that is in a word, or the length.
-fn word_start(line: &[u8], at: usize) -> usize
-    requires { ⌜ at ≤ length (now line) ⌝ }
-    ensures { λ r. ⌜ First is-no-gap (now (line .entry)) at r ⌝ }
-{
-    let mut i = at;
-    while i < line.len() {
-        if !is_space_or_tab(line[i]) {
-            return i;
-        }
-        i += 1;
-    }
-    i
-}
-
-// The first byte at or after `at` that is in no word, or the length.
-fn word_end(line: &[u8], at: usize) -> usize
-    requires { ⌜ at ≤ length (now line) ⌝ }
-    ensures { λ r. ⌜ First is-gap (now (line .entry)) at r ⌝ }
-{
-    let mut i = at;
-    while i < line.len() {
-        if is_space_or_tab(line[i]) {
-            return i;
-        }
-        i += 1;
-    }
-    i
-}
-
-// Where a word of a line starts and ends; it is empty if there is none.
-struct Word {
-    start: usize,
-    end: usize,
-}
-
-// The next word from `at` on.
-fn next_word(line: &[u8], at: usize) -> Word
-    requires { ⌜ at ≤ length (now line) ⌝ }
-    ensures { λ r. ⌜ NextWord (now (line .entry)) at r ⌝ }
-{
-    let start = word_start(line, at);
-    let end = word_end(line, start);
-    Word { start, end }
-}
-
-// Whether a word is a name.
-fn is_word(word: &[u8], name: &[u8]) -> bool
-    ensures { λ r. ⌜ r ≡ same (now (word .entry)) (now (name .entry)) ⌝ }
-{
-    if word.len() != name.len() {
-        return false;
-    }
-    let mut i: usize = 0;
-    while i < name.len() {
-        if word[i] != name[i] {
-            return false;
-        }
-        i += 1;
-    }
-    true
-}
-
-// What a word says, if it is a number.
-enum Number {
-    Value(u64),
-    Not,
-}
-
-fn wide(b: u8) -> u64
-    ensures { λ r. ⌜ r ≡ b ⌝ }
-{
-    b as u64
-}
-
-// The number of a word of decimal digits, if it is at most `top`: tested digit by digit, so that no product wraps.
-fn number_of(word: &[u8], top: u64) -> Number
-    ensures { λ r. ⌜ told r ≡ number top (now (word .entry)) ⌝ }
-{
-    if word.len() == 0 {
-        return Number::Not;
-    }
-    let mut v: u64 = 0;
-    let mut i: usize = 0;
-    while i < word.len() {
-        let b = word[i];
-        if b < b'0' {
-            return Number::Not;
-        }
-        if b'9' < b {
-            return Number::Not;
-        }
-        let d = wide(b - b'0');
-        if top / 10 < v {
-            return Number::Not;
-        }
-        if top - v * 10 < d {
-            return Number::Not;
-        }
-        v = v * 10 + d;
-        i += 1;
-    }
-    Number::Value(v)
-}
-
 // A number in a line, if it is good, and the position behind it. The bounds of its fields hold in any case.
 struct Taken {
     good: bool,
@@ -230,7 +90,7 @@ fn take_number(line: &[u8], at: usize, top: u64) -> Taken
     requires { ⌜ at ≤ length (now line) ⌝ }
     ensures { λ r. ⌜ NextNumber (now (line .entry)) at top r ⌝ }
 {
-    let word = next_word(line, at);
+    let word = words::next_word(line, at);
     let start = word.start;
     let end = word.end;
     if start == end {
@@ -240,7 +100,7 @@ fn take_number(line: &[u8], at: usize, top: u64) -> Taken
             next: at,
         };
     }
-    let n = number_of(&line[start..end], top);
+    let n = words::number_of(&line[start..end], top);
     match n {
         Number::Value(value) => Taken {
             good: true,
@@ -255,15 +115,6 @@ fn take_number(line: &[u8], at: usize, top: u64) -> Taken
     }
 }
 
-// Whether no word is left from `at` on.
-fn is_at_end(line: &[u8], at: usize) -> bool
-    requires { ⌜ at ≤ length (now line) ⌝ }
-    ensures { λ r. ⌜ r ≡ none-left (words (drop at (now (line .entry)))) ⌝ }
-{
-    let word = next_word(line, at);
-    word.start == word.end
-}
-
 // One number from `at` on and no more, if it is good.
 struct One {
     good: bool,
@@ -275,7 +126,7 @@ fn one_number(line: &[u8], at: usize, top: u64) -> One
     ensures { λ r. ⌜ OneNumber (now (line .entry)) at top r ⌝ }
 {
     let a = take_number(line, at, top);
-    let done = is_at_end(line, a.next);
+    let done = words::is_at_end(line, a.next);
     One {
         good: a.good & done,
         a: a.value,
@@ -334,7 +185,7 @@ fn standing_at(line: &[u8], at: usize) -> Standing
     requires { ⌜ at ≤ length (now line) ⌝ }
     ensures { λ r. ⌜ PerhapsStanding (now (line .entry)) at r ⌝ }
 {
-    let word = next_word(line, at);
+    let word = words::next_word(line, at);
     let start = word.start;
     let end = word.end;
     if start == end {
@@ -343,8 +194,8 @@ fn standing_at(line: &[u8], at: usize) -> Standing
             standing: false,
         };
     }
-    let named = is_word(&line[start..end], b"standing");
-    let done = is_at_end(line, end);
+    let named = words::is_word(&line[start..end], b"standing");
+    let done = words::is_at_end(line, end);
     Standing {
         good: named & done,
         standing: true,
@@ -475,7 +326,7 @@ fn evict_line(line: &[u8], at: usize) -> Line
     requires { ⌜ at ≤ length (now line) ⌝ }
     ensures { λ r. ⌜ r ≡ ends Line.Evict (words (drop at (now (line .entry)))) ⌝ }
 {
-    if is_at_end(line, at) {
+    if words::is_at_end(line, at) {
         return Line::Evict;
     }
     Line::NotUnderstood
@@ -485,7 +336,7 @@ fn dump_line(line: &[u8], at: usize) -> Line
     requires { ⌜ at ≤ length (now line) ⌝ }
     ensures { λ r. ⌜ r ≡ ends Line.Dump (words (drop at (now (line .entry)))) ⌝ }
 {
-    if is_at_end(line, at) {
+    if words::is_at_end(line, at) {
         return Line::Dump;
     }
     Line::NotUnderstood
@@ -523,7 +374,7 @@ fn cut_evict_line(line: &[u8], at: usize, k: u64) -> Line
     requires { ⌜ at ≤ length (now line) ⌝ }
     ensures { λ r. ⌜ r ≡ ends (Line.CutEvict k) (words (drop at (now (line .entry)))) ⌝ }
 {
-    if is_at_end(line, at) {
+    if words::is_at_end(line, at) {
         return Line::CutEvict { k };
     }
     Line::NotUnderstood
@@ -534,20 +385,20 @@ fn cut_call(line: &[u8], at: usize, k: u64) -> Line
     requires { ⌜ at ≤ length (now line) ⌝ }
     ensures { λ r. ⌜ r ≡ cut-call k (words (drop at (now (line .entry)))) ⌝ }
 {
-    let word = next_word(line, at);
+    let word = words::next_word(line, at);
     let start = word.start;
     let end = word.end;
     if start == end {
         return Line::NotUnderstood;
     }
     let name = &line[start..end];
-    if is_word(name, b"set") {
+    if words::is_word(name, b"set") {
         return cut_set_line(line, end, k);
     }
-    if is_word(name, b"delete") {
+    if words::is_word(name, b"delete") {
         return cut_delete_line(line, end, k);
     }
-    if is_word(name, b"evict") {
+    if words::is_word(name, b"evict") {
         return cut_evict_line(line, end, k);
     }
     Line::NotUnderstood
@@ -601,20 +452,20 @@ fn poke_line(line: &[u8], at: usize) -> Line
     requires { ⌜ at ≤ length (now line) ⌝ }
     ensures { λ r. ⌜ r ≡ poke-call (words (drop at (now (line .entry)))) ⌝ }
 {
-    let word = next_word(line, at);
+    let word = words::next_word(line, at);
     let start = word.start;
     let end = word.end;
     if start == end {
         return Line::NotUnderstood;
     }
     let name = &line[start..end];
-    if is_word(name, b"slots") {
+    if words::is_word(name, b"slots") {
         return poke_slots_line(line, end);
     }
-    if is_word(name, b"counters") {
+    if words::is_word(name, b"counters") {
         return poke_counters_line(line, end);
     }
-    if is_word(name, b"items") {
+    if words::is_word(name, b"items") {
         return poke_items_line(line, end);
     }
     Line::NotUnderstood
@@ -625,19 +476,19 @@ fn other_call_line(name: &[u8], line: &[u8], at: usize) -> Line
     requires { ⌜ at ≤ length (now line) ⌝ }
     ensures { λ r. ⌜ r ≡ other-call (now (name .entry)) (words (drop at (now (line .entry)))) ⌝ }
 {
-    if is_word(name, b"hand") {
+    if words::is_word(name, b"hand") {
         return hand_line(line, at);
     }
-    if is_word(name, b"cut") {
+    if words::is_word(name, b"cut") {
         return cut_line(line, at);
     }
-    if is_word(name, b"list") {
+    if words::is_word(name, b"list") {
         return list_line(line, at);
     }
-    if is_word(name, b"poke") {
+    if words::is_word(name, b"poke") {
         return poke_line(line, at);
     }
-    if is_word(name, b"dump") {
+    if words::is_word(name, b"dump") {
         return dump_line(line, at);
     }
     Line::NotUnderstood
@@ -648,22 +499,22 @@ fn call_line(name: &[u8], line: &[u8], at: usize) -> Line
     requires { ⌜ at ≤ length (now line) ⌝ }
     ensures { λ r. ⌜ r ≡ call (now (name .entry)) (words (drop at (now (line .entry)))) ⌝ }
 {
-    if is_word(name, b"fresh") {
+    if words::is_word(name, b"fresh") {
         return fresh_line(line, at);
     }
-    if is_word(name, b"set") {
+    if words::is_word(name, b"set") {
         return set_line(line, at);
     }
-    if is_word(name, b"read") {
+    if words::is_word(name, b"read") {
         return read_line(line, at);
     }
-    if is_word(name, b"serve") {
+    if words::is_word(name, b"serve") {
         return serve_line(line, at);
     }
-    if is_word(name, b"delete") {
+    if words::is_word(name, b"delete") {
         return delete_line(line, at);
     }
-    if is_word(name, b"evict") {
+    if words::is_word(name, b"evict") {
         return evict_line(line, at);
     }
     other_call_line(name, line, at)
@@ -673,7 +524,7 @@ fn call_line(name: &[u8], line: &[u8], at: usize) -> Line
 fn words_line(line: &[u8]) -> Line
     ensures { λ r. ⌜ r ≡ meaning (words (now (line .entry))) ⌝ }
 {
-    let word = next_word(line, 0);
+    let word = words::next_word(line, 0);
     let start = word.start;
     let end = word.end;
     if start == end {
@@ -702,65 +553,6 @@ pub fn parse_line(line: &[u8]) -> Line
 {
     let n = length_without_return(line);
     let body = &line[..n];
-    let m = comment_start(body);
+    let m = words::comment_start(body);
     words_line(&body[..m])
-}
-
-// Copies a text into the buffer from `at` on; the position behind it.
-pub fn put_bytes(buffer: &mut [u8], at: usize, text: &[u8]) -> usize
-    requires { ⌜ at + length (now text) ≤ length (now buffer) ⌝ }
-    ensures { λ r. ⌜ Put (now (text .entry)) at (now (buffer .entry)) (now (buffer .exit)) r ⌝ }
-{
-    let mut i: usize = 0;
-    while i < text.len() {
-        buffer[at + i] = text[i];
-        i += 1;
-    }
-    at + i
-}
-
-// The last decimal digit of a number.
-fn digit(x: u64) -> u8
-    ensures { λ r. ⌜ r ≡ 48 + x % 10 ⌝ }
-{
-    b'0' + (x % 10) as u8
-}
-
-// The digits of a number from `at` on; the position behind them. They come last digit first, so they are collected from the end.
-pub fn put_decimal(buffer: &mut [u8], at: usize, x: u64) -> usize
-    requires { ⌜ at + 20 ≤ length (now buffer) ⌝ }
-    ensures { λ r. ⌜ Put (decimal-of x) at (now (buffer .entry)) (now (buffer .exit)) r × (r ≤ at + 20) ⌝ }
-{
-    let mut digits = [0u8; 20];
-    let mut rest = x;
-    let mut n: usize = 0;
-    while 10 <= rest {
-        let place = 19 - n;
-        digits[place] = digit(rest);
-        rest = rest / 10;
-        n += 1;
-    }
-    let first = 19 - n;
-    digits[first] = digit(rest);
-    put_bytes(buffer, at, &digits[first..])
-}
-
-fn hex_digit(n: u8) -> u8
-    requires { ⌜ n < 16 ⌝ }
-    ensures { λ r. ⌜ r ≡ hex-digit n ⌝ }
-{
-    if n < 10 {
-        return b'0' + n;
-    }
-    b'a' + (n - 10)
-}
-
-// The two hexadecimal digits of a byte from `at` on; the position behind them.
-pub fn put_hex_byte(buffer: &mut [u8], at: usize, b: u8) -> usize
-    requires { ⌜ at + 2 ≤ length (now buffer) ⌝ }
-    ensures { λ r. ⌜ Put (hex-of b) at (now (buffer .entry)) (now (buffer .exit)) r × (r ≡ at + 2) ⌝ }
-{
-    buffer[at] = hex_digit(b / 16);
-    buffer[at + 1] = hex_digit(b % 16);
-    at + 2
 }

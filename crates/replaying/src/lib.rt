@@ -1,8 +1,8 @@
 // Replays lines of calls on one table, one after the other, and writes their answers through one buffer.
-ghost use mathlib.Core.Path.{_≡_};
-ghost use Prim.Native.Nat.{_+_, _<_, _≤_};
+ghost use Prim.Native.Nat.{_<_, _≤_};
 ghost use lib.ListN.{length};
-ghost use Rattle.replaying.specs.Room.{Room, Moved, Fits, Poked, PieceAt};
+ghost use Rattle.showing.specs.Room.{Room};
+ghost use Rattle.replaying.specs.InUse.{Moved, Fits, PieceAt};
 use answering::Turn;
 use language::Line;
 use libc::STDOUT_FILENO;
@@ -16,147 +16,13 @@ pub struct State {
     pub at: usize,
 }
 
-// What stands in the buffer goes out where fewer than 96 bytes are left: no answer's line is longer.
-fn with_room(out: &[u8], at: usize) -> usize
-    requires { ⌜ at ≤ length (now out) ⌝ }
-    requires { ⌜ 96 ≤ length (now out) ⌝ }
-    ensures { λ r. ⌜ Room r (now (out .entry)) ⌝ }
-{
-    if out.len() - at < 96 {
-        io::write_all(STDOUT_FILENO, &out[..at]);
-        return 0;
-    }
-    at
-}
-
-// A line of one or two words.
-fn put_words(out: &mut [u8], at: usize, words: &[u8]) -> usize
-    requires { ⌜ Room at (now out) ⌝ }
-    requires { ⌜ length (now words) ≤ 90 ⌝ }
-    ensures { λ r. ⌜ Room r (now (out .entry)) ⌝ }
-{
-    let next = telling::put_line(out, at, words);
-    with_room(out, next)
-}
-
-fn wide(w: u32) -> u64
-    ensures { λ r. ⌜ r ≡ w ⌝ }
-{
-    w as u64
-}
-
-// A word of a dump, behind a space.
-fn put_number(out: &mut [u8], at: usize, x: u64) -> usize
-    requires { ⌜ Room at (now out) ⌝ }
-    ensures { λ r. ⌜ Room r (now (out .entry)) ⌝ }
-{
-    let digits = language::put_bytes(out, at, b" ");
-    let next = language::put_decimal(out, digits, x);
-    with_room(out, next)
-}
-
-fn dump32(out: &mut [u8], at: usize, words: &[u32]) -> usize
-    requires { ⌜ Room at (now out) ⌝ }
-    ensures { λ r. ⌜ Room r (now (out .entry)) ⌝ }
-{
-    let mut next = at;
-    let mut i: usize = 0;
-    while i < words.len() {
-        next = put_number(out, next, wide(words[i]));
-        i += 1;
-    }
-    put_words(out, next, b"")
-}
-
-fn dump64(out: &mut [u8], at: usize, words: &[u64]) -> usize
-    requires { ⌜ Room at (now out) ⌝ }
-    ensures { λ r. ⌜ Room r (now (out .entry)) ⌝ }
-{
-    let mut next = at;
-    let mut i: usize = 0;
-    while i < words.len() {
-        next = put_number(out, next, words[i]);
-        i += 1;
-    }
-    put_words(out, next, b"")
-}
-
-// Every word of the three runs.
-fn dump(slots: &[u32], counters: &[u32], items: &[u64], out: &mut [u8], at: usize) -> usize
-    requires { ⌜ Room at (now out) ⌝ }
-    ensures { λ r. ⌜ Room r (now (out .entry)) ⌝ }
-{
-    let a = language::put_bytes(out, at, b"slots");
-    let b = dump32(out, with_room(out, a), slots);
-    let c = language::put_bytes(out, b, b"counters");
-    let d = dump32(out, with_room(out, c), counters);
-    let e = language::put_bytes(out, d, b"items");
-    dump64(out, with_room(out, e), items)
-}
-
-// A byte of a record; the line ends behind the twentieth.
-fn put_record_byte(out: &mut [u8], at: usize, b: u8, is_last: bool) -> usize
-    requires { ⌜ Room at (now out) ⌝ }
-    ensures { λ r. ⌜ Room r (now (out .entry)) ⌝ }
-{
-    let next = language::put_hex_byte(out, at, b);
-    if is_last {
-        let end = telling::put_line(out, next, b"");
-        return with_room(out, end);
-    }
-    with_room(out, next)
-}
-
-// The first n records, a line each.
-fn put_records(out: &mut [u8], at: usize, records: &[u8], n: usize) -> usize
-    requires { ⌜ Room at (now out) ⌝ }
-    ensures { λ r. ⌜ Room r (now (out .entry)) ⌝ }
-{
-    let mut next = at;
-    let mut i: usize = 0;
-    while i < records.len() {
-        if n <= i / 20 {
-            return next;
-        }
-        next = put_record_byte(out, next, records[i], i % 20 == 19);
-        i += 1;
-    }
-    next
-}
-
-// The list into the bytes lent for it, and its records.
-fn list(
-    slots: &[u32],
-    counters: &[u32],
-    items: &[u64],
-    buffer: &mut [u8],
-    out: &mut [u8],
-    at: usize,
-) -> usize
-    requires { ⌜ Room at (now out) ⌝ }
-    ensures { λ r. ⌜ Room r (now (out .entry)) ⌝ }
-{
-    let said = listing::list(slots, counters, items, buffer);
-    match said {
-        model::Listing::Refused(n) => {
-            let next = telling::put_refused(out, at, wide(n));
-            with_room(out, next)
-        }
-        model::Listing::Listed(n) => {
-            let next = telling::put_count(out, at, n as u64);
-            let first = with_room(out, next);
-            put_records(out, first, buffer, n)
-        }
-    }
-}
-
 // Refusal 1 leaves the table there was.
 fn refuse_length(out: &mut [u8], state: State) -> State
     requires { ⌜ Room (state .at) (now out) ⌝ }
     ensures { λ r. ⌜ Moved state (now (out .entry)) r ⌝ }
 {
     let next = telling::put_refused(out, state.at, 1);
-    let at = with_room(out, next);
+    let at = showing::with_room(out, next);
     State {
         slots: state.slots,
         counters: state.counters,
@@ -193,7 +59,7 @@ fn start(
     match said {
         model::Starting::Refused(_) => refuse_length(out, state),
         model::Starting::Started => {
-            let at = put_words(out, state.at, b"fresh");
+            let at = showing::put_words(out, state.at, b"fresh");
             State {
                 slots: s,
                 counters: v,
@@ -203,70 +69,6 @@ fn start(
             }
         }
     }
-}
-
-// A word of a run, if there is one and the new word fits.
-fn poke32(run: &mut [u32], at: u64, word: u64) -> bool
-    ensures { λ r. ⌜ Poked 4294967295 at word (now (run .entry)) (now (run .exit)) r ⌝ }
-{
-    let i = at as usize;
-    if run.len() <= i {
-        return false;
-    }
-    if 4294967295 < word {
-        return false;
-    }
-    run[i] = word as u32;
-    true
-}
-
-fn poke64(run: &mut [u64], at: u64, word: u64) -> bool
-    ensures { λ r. ⌜ Poked 18446744073709551615 at word (now (run .entry)) (now (run .exit)) r ⌝ }
-{
-    let i = at as usize;
-    if run.len() <= i {
-        return false;
-    }
-    run[i] = word;
-    true
-}
-
-fn tell_poked(out: &mut [u8], at: usize, poked: bool) -> usize
-    requires { ⌜ Room at (now out) ⌝ }
-    ensures { λ r. ⌜ Room r (now (out .entry)) ⌝ }
-{
-    if poked {
-        return put_words(out, at, b"poked");
-    }
-    put_words(out, at, b"no such word")
-}
-
-fn not_understood(out: &mut [u8], at: usize, number: u64) -> usize
-    requires { ⌜ Room at (now out) ⌝ }
-    ensures { λ r. ⌜ Room r (now (out .entry)) ⌝ }
-{
-    let next = telling::put_not_understood(out, at, number);
-    with_room(out, next)
-}
-
-// The list into the first `size` bytes lent for it; the language has no line for more.
-fn list_into(
-    slots: &[u32],
-    counters: &[u32],
-    items: &[u64],
-    records: &mut [u8],
-    out: &mut [u8],
-    at: usize,
-    size: usize,
-    number: u64,
-) -> usize
-    requires { ⌜ Room at (now out) ⌝ }
-    ensures { λ r. ⌜ Room r (now (out .entry)) ⌝ }
-{
-    if records.len() < size {
-        return not_understood(out, at, number);
-    }
-    list(slots, counters, items, &mut records[..size], out, at)
 }
 
 // A line that makes no fresh table: its call on the table there is, its answer, and the hand afterwards.
@@ -287,11 +89,11 @@ fn on_table(
     match line {
         Line::Blank => Turn { next: at, hand },
         Line::NotUnderstood => Turn {
-            next: not_understood(out, at, number),
+            next: showing::not_understood(out, at, number),
             hand,
         },
         Line::Fresh { .. } => Turn {
-            next: not_understood(out, at, number),
+            next: showing::not_understood(out, at, number),
             hand,
         },
         Line::Read {
@@ -310,7 +112,7 @@ fn on_table(
                 at,
             );
             Turn {
-                next: with_room(out, next),
+                next: showing::with_room(out, next),
                 hand,
             }
         }
@@ -330,7 +132,7 @@ fn on_table(
                 at,
             );
             Turn {
-                next: with_room(out, next),
+                next: showing::with_room(out, next),
                 hand,
             }
         }
@@ -352,7 +154,7 @@ fn on_table(
                 at,
             );
             Turn {
-                next: with_room(out, next),
+                next: showing::with_room(out, next),
                 hand,
             }
         }
@@ -376,44 +178,44 @@ fn on_table(
                 at,
             );
             Turn {
-                next: with_room(out, next),
+                next: showing::with_room(out, next),
                 hand,
             }
         }
         Line::Delete { animal } => {
             let next = answering::answer_delete(slots, counters, items, animal, out, at);
             Turn {
-                next: with_room(out, next),
+                next: showing::with_room(out, next),
                 hand,
             }
         }
         Line::CutDelete { k, animal } => {
             let next = answering::answer_delete_cut(slots, counters, items, animal, k, out, at);
             Turn {
-                next: with_room(out, next),
+                next: showing::with_room(out, next),
                 hand,
             }
         }
         Line::Evict => {
             let turn = answering::answer_evict(slots, counters, items, hand, out, at);
             Turn {
-                next: with_room(out, turn.next),
+                next: showing::with_room(out, turn.next),
                 hand: turn.hand,
             }
         }
         Line::CutEvict { k } => {
             let turn = answering::answer_evict_cut(slots, counters, items, hand, k, out, at);
             Turn {
-                next: with_room(out, turn.next),
+                next: showing::with_room(out, turn.next),
                 hand: turn.hand,
             }
         }
         Line::Hand { at: new } => Turn {
-            next: put_words(out, at, b"hand"),
+            next: showing::put_words(out, at, b"hand"),
             hand: new as usize,
         },
         Line::List { size } => {
-            let next = list_into(
+            let next = showing::list_into(
                 slots,
                 counters,
                 items,
@@ -426,28 +228,28 @@ fn on_table(
             Turn { next, hand }
         }
         Line::PokeSlots { at: i, word } => {
-            let poked = poke32(slots, i, word);
+            let poked = showing::poke32(slots, i, word);
             Turn {
-                next: tell_poked(out, at, poked),
+                next: showing::tell_poked(out, at, poked),
                 hand,
             }
         }
         Line::PokeCounters { at: i, word } => {
-            let poked = poke32(counters, i, word);
+            let poked = showing::poke32(counters, i, word);
             Turn {
-                next: tell_poked(out, at, poked),
+                next: showing::tell_poked(out, at, poked),
                 hand,
             }
         }
         Line::PokeItems { at: i, word } => {
-            let poked = poke64(items, i, word);
+            let poked = showing::poke64(items, i, word);
             Turn {
-                next: tell_poked(out, at, poked),
+                next: showing::tell_poked(out, at, poked),
                 hand,
             }
         }
         Line::Dump => Turn {
-            next: dump(slots, counters, items, out, at),
+            next: showing::dump(slots, counters, items, out, at),
             hand,
         },
     }
@@ -517,7 +319,7 @@ fn piece_at(text: &[u8], from: usize) -> Piece
     requires { ⌜ from < length (now text) ⌝ }
     ensures { λ r. ⌜ PieceAt from (now (text .entry)) r ⌝ }
 {
-    let end = language::line_end(text, from);
+    let end = words::line_end(text, from);
     if end < text.len() {
         return Piece { end, next: end + 1 };
     }

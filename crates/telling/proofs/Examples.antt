@@ -1,8 +1,8 @@
 -- Answers and their lines, by computation. Assumes nothing.
 use mathlib.Core.Path.{_≡_, refl}
 use mathlib.Core.List.{[], _∷_}
-use Rattle.language.specs.Text.{bytes}
-use Rattle.language.specs.Print.{decimal-of, digits}
+use Rattle.words.specs.Text.{bytes}
+use Rattle.words.specs.Print.{decimal-of, digits}
 use Rattle.model.specs.Answers.{refused, absent, fresh, old, ahead, stored, deleted, evicted, started, listed}
 use Rattle.telling.specs.Text.{not-understood, numbered, text, told}
 

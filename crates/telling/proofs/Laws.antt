@@ -2,9 +2,9 @@
 use Prim.Native.Nat.{ℕ}
 use mathlib.Core.Path.{_≡_, refl, sym, ap, _∙_}
 use mathlib.Core.List.{List, [], _∷_, _++_, append-assoc}
-use Rattle.language.specs.Text.{bytes}
-use Rattle.language.specs.Print.{Put, decimal-of}
-use Rattle.language.proofs.Printing.{put-both}
+use Rattle.words.specs.Text.{bytes}
+use Rattle.words.specs.Print.{Put, decimal-of}
+use Rattle.words.proofs.Printing.{put-both}
 use Rattle.model.specs.Said.{said-reading, said-setting, said-deleting, said-evicting, said-starting}
 use Rattle.model.specs.declared.Reading.{Reading}
 use Rattle.model.specs.declared.Setting.{Setting}

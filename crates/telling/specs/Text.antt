@@ -1,8 +1,8 @@
 -- The answers of the table as the replay program's lines, in bytes with the LF. Assumes nothing.
 use Prim.Native.Nat.{ℕ}
 use mathlib.Core.List.{List, [], _∷_, _++_}
-use Rattle.language.specs.Text.{bytes}
-use Rattle.language.specs.Print.{decimal-of}
+use Rattle.words.specs.Text.{bytes}
+use Rattle.words.specs.Print.{decimal-of}
 use Rattle.model.specs.Answers.{Answer, refused, absent, fresh, old, ahead, stored, deleted, evicted, started, listed, at-place}
 
 -- the words of a line and its end

@@ -2,7 +2,7 @@
 ghost use Prim.Native.Nat.{_+_, _≤_};
 ghost use mathlib.Core.List.{[], _∷_};
 ghost use lib.ListN.{length};
-ghost use Rattle.language.specs.Print.{Put};
+ghost use Rattle.words.specs.Print.{Put};
 ghost use Rattle.model.specs.Answers.{refused, listed};
 ghost use Rattle.model.specs.Said.{said-reading, said-setting, said-deleting, said-evicting, said-starting};
 ghost use Rattle.telling.specs.Text.{line, numbered, told, text, not-understood};
@@ -17,8 +17,8 @@ pub fn put_line(buffer: &mut [u8], at: usize, words: &[u8]) -> usize
     requires { ⌜ at + length (now words) + 1 ≤ length (now buffer) ⌝ }
     ensures { λ r. ⌜ Put (line (now (words .entry))) at (now (buffer .entry)) (now (buffer .exit)) r × (r ≤ at + length (now (words .entry)) + 1) ⌝ }
 {
-    let behind = language::put_bytes(buffer, at, words);
-    language::put_bytes(buffer, behind, b"\n")
+    let behind = words::put_bytes(buffer, at, words);
+    words::put_bytes(buffer, behind, b"\n")
 }
 
 // A word, a space and a number.
@@ -26,9 +26,9 @@ fn put_numbered(buffer: &mut [u8], at: usize, word: &[u8], n: u64) -> usize
     requires { ⌜ at + length (now word) + 21 ≤ length (now buffer) ⌝ }
     ensures { λ r. ⌜ Put (numbered (now (word .entry)) n) at (now (buffer .entry)) (now (buffer .exit)) r × (r ≤ at + length (now (word .entry)) + 21) ⌝ }
 {
-    let behind_word = language::put_bytes(buffer, at, word);
-    let behind_space = language::put_bytes(buffer, behind_word, b" ");
-    language::put_decimal(buffer, behind_space, n)
+    let behind_word = words::put_bytes(buffer, at, word);
+    let behind_space = words::put_bytes(buffer, behind_word, b" ");
+    words::put_decimal(buffer, behind_space, n)
 }
 
 // A line of a word and one number. What is behind the number is a line with no word, so that one law serves any count of numbers.

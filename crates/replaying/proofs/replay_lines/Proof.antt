@@ -1,9 +1,9 @@
 -- `replaying::replay_lines` meets its contract. Assumes nothing.
-use Rattle.replaying.proofs.Front.{front-with-room}
+use Rattle.showing.proofs.Front.{front-with-room}
 use Prim.Native.Nat.{_+_, _-_, _≤_}
 use mathlib.Core.Path.{_≡_}
 use lib.ListN.{length}
-use Rattle.replaying.specs.Room.{Fits}
+use Rattle.replaying.specs.InUse.{Fits}
 use borrow.Author.Needs.{needs}
 use Rattle.replaying.proofs.replay_lines.Statement.{statement}
 use Rattle.replaying.proofs.replay_lines.Tie as tie

@@ -1,5 +1,5 @@
 -- `replaying::step` meets its contract. Assumes nothing.
-use Rattle.replaying.proofs.Front.{front}
+use Rattle.showing.proofs.Front.{front}
 use borrow.Author.Needs.{needs}
 use Rattle.replaying.proofs.step.Statement.{statement}
 use Rattle.replaying.proofs.step.Tie as tie

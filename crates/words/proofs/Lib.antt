@@ -1,0 +1,4 @@
+pub mod Examples
+pub mod Scan
+pub mod OneWord
+pub mod Printing

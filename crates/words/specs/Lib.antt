@@ -1,0 +1,4 @@
+pub mod Text
+pub mod Words
+pub mod Cursor
+pub mod Print
