@@ -1,5 +1,5 @@
 /*
- * peers.cc: nanoseconds a read, ours and those of known hash maps, with the same herd and the same questions as speed.c.
+ * peers.cc: nanoseconds a read, ours and those of known hash maps, with a herd and questions as speed.c has them.
  * A peer maps an animal to its permission and stamp, and its read is the lookup and then the judgement of the age by
  * document 01's rules. It makes none of our refusals. Each peer is told beforehand that M animals may come and hashes by
  * its default, which does for scattered numbers: libcuckoo, tsl and std by std::hash, the number itself; absl by its own.

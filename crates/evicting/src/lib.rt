@@ -203,7 +203,7 @@ pub fn evict_cut(
     carry_out(slots, counters, items, hand, plan, k)
 }
 
-// Not by way of the cut form: each function that two others call is a call more in the cabinet.
+// Evict. Beside its cut form and not by way of it: a function that several call is not inlined.
 pub fn evict(slots: &mut [u32], counters: &mut [u32], items: &mut [u64], hand: Hand) -> Turned
     ensures { λ r. ⌜ Evicted (mem (now (slots .entry)) (now (counters .entry)) (now (items .entry))) (hand .at)
         (mem (now (slots .exit)) (now (counters .exit)) (now (items .exit))) r ⌝ }

@@ -1,6 +1,5 @@
 -- Laws on the eight words. Assumes nothing.
 use Prim.Native.Nat.{ℕ, _+_, _*_, _<_, _≤_, _%_, _/_}
-use native.Mathlib.Nat.{add-zero}
 use native.Mathlib.Omega.{arith}
 use native.Mathlib.Decide.{ℕ-discrete}
 use mathlib.Core.Path.{_≡_, refl, sym, ap, _∙_}
@@ -38,18 +37,6 @@ pub by-eight : (M a b c d e g h i : ℕ) {p₀ p₁ p₂ p₃ p₄ p₅ p₆ p�
     → p₀ ≡ damaged M a → p₁ ≡ damaged M b → p₂ ≡ damaged M c → p₃ ≡ damaged M d
     → (p₀ || (p₁ || (p₂ || (p₃ || (p₄ || (p₅ || (p₆ || p₇))))))) ≡ any (damaged M) (a ∷ b ∷ c ∷ d ∷ e ∷ g ∷ h ∷ i ∷ [])
 by-eight M a b c d e g h i q₄ q₅ q₆ q₇ q₀ q₁ q₂ q₃ = rw (q₀, q₁, q₂, q₃, q₄, q₅, q₆, q₇) (any-eight (damaged M) a b c d e g h i)
-
--- one word and the rest, in a sum
-pub sum-cons : (t w : ℕ) (ws : List ℕ) → tag-sum t (w ∷ ws) ≡ tag-sum t (w ∷ []) + tag-sum t ws
-unfolding tag-sum
-sum-cons t w ws = rw add-zero
-
-pub sum-eight : (t a b c d e g h i : ℕ)
-    → tag-sum t (a ∷ b ∷ c ∷ d ∷ e ∷ g ∷ h ∷ i ∷ [])
-    ≡ tag-sum t (a ∷ []) + tag-sum t (b ∷ []) + tag-sum t (c ∷ []) + tag-sum t (d ∷ []) + tag-sum t (e ∷ []) + tag-sum t (g ∷ [])
-    + tag-sum t (h ∷ []) + tag-sum t (i ∷ [])
-unfolding tag-sum
-sum-eight t a b c d e g h i = omega arith
 
 pub one-with : (t w : ℕ) → tag w ≡ t → w ≡ tag-sum t (w ∷ [])
 unfolding tag-sum

@@ -119,7 +119,7 @@ fn or_else(a: u32, b: u32) -> u32
     a
 }
 
-// Slot by slot, where two words or more share the tag.
+// Slot by slot: the way of find, and of a read where two words or more share the tag.
 pub fn hit_by_slots(items: &[u64], e: Eight, tag: u32, animal: u64) -> u32
     requires { ⌜ 1 ≤ tag ⌝ }
     ensures { λ r. ⌜ r ≡ found-word (first (leads (now (items .entry)) tag animal) (words-of e)) ⌝ }
@@ -239,7 +239,7 @@ pub enum Slot {
     Nowhere,
 }
 
-// Slot i if it has the word, else another.
+// Slot i if it has the word, else the other number.
 fn slot_if(has: bool, i: usize, other: usize) -> usize
     ensures { λ r. ⌜ r ≡ choose has i other ⌝ }
 {
@@ -249,7 +249,7 @@ fn slot_if(has: bool, i: usize, other: usize) -> usize
     other
 }
 
-// The first slot of a bucket with a word, else another. All four are compared and none is branched on: where a word stands can't be foretold.
+// The first slot of bucket b with the word w, else the other number. All four are compared and none is branched on: where a word stands can't be foretold.
 fn slot_among(slots: &[u32], b: u32, w: u32, other: usize) -> usize
     requires { ⌜ b * 4 + 3 < length (now slots) ⌝ }
     ensures { λ r. ⌜ r ≡ slot-or other (first (λ i. eqb (getD (now (slots .entry)) i 0) w) (range (b * 4) 4)) ⌝ }

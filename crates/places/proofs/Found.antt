@@ -1,7 +1,7 @@
 -- What a caller may know of what was found: where it is and how many places were looked at. Assumes nothing.
 use Prim.Native.Nat.{ℕ, _+_, _*_, _<_, suc, _≤_, zero}
 use native.Mathlib.Omega.{arith}
-use mathlib.Core.Path.{_≡_, refl, sym, ap, _∙_}
+use mathlib.Core.Path.{_≡_, refl, sym}
 use mathlib.Core.Bool.{true, false}
 use mathlib.Core.Option.{Option, none, some}
 use mathlib.Core.List.{List}
@@ -18,7 +18,7 @@ use Rattle.places.specs.Walks.{scanned, vacancy}
 use Rattle.places.specs.declared.Scan.{Scan}
 use Rattle.places.specs.declared.Scan.the-variants.{Victim as Taken, Nobody}
 use Rattle.places.specs.declared.Vacancy.{Vacancy}
-use Rattle.places.specs.declared.Vacancy.the-variants.{At, Full}
+use Rattle.places.specs.declared.Vacancy.the-variants.{At}
 
 -- a victim was found at no more than k places looked at
 abbrev AtMost : ℕ → Option Victim → Type 0
@@ -104,33 +104,5 @@ module _ (m : ℕ) (l : List ℕ) {r : Vacancy} (e : vacancy r ≡ vacant-place 
   pub vacancy-at : {p : ℕ} → r ≡ At p → vacant-place m l ≡ some p
   vacancy-at q = sym (rw q at e)
 
-  pub vacancy-full : r ≡ Full → vacant-place m l ≡ none
-  vacancy-full q = sym (rw q at e)
-
   pub vacancy-within : {p : ℕ} → r ≡ At p → VacantAt m l p
   vacancy-within q = vacant-within m l (vacancy-at q)
-
--- what the definitions say decides the code's answer: two answers with the same meaning are equal
-scan-of : Option Victim → Scan
-scan-of none = Nobody
-scan-of (some v) = Taken (v .place) (v .looked)
-
-scan-back : (r : Scan) → scan-of (scanned r) ≡ r
-unfolding scan-of
-scan-back (Taken p n) = refl
-scan-back Nobody = refl
-
-pub scan-decided : (r s : Scan) → scanned r ≡ scanned s → r ≡ s
-scan-decided r s e = sym (scan-back r) ∙ ap scan-of e ∙ scan-back s
-
-vacancy-of : Option ℕ → Vacancy
-vacancy-of none = Full
-vacancy-of (some p) = At p
-
-vacancy-back : (r : Vacancy) → vacancy-of (vacancy r) ≡ r
-unfolding vacancy-of
-vacancy-back (At p) = refl
-vacancy-back Full = refl
-
-pub vacancy-decided : (r s : Vacancy) → vacancy r ≡ vacancy s → r ≡ s
-vacancy-decided r s e = sym (vacancy-back r) ∙ ap vacancy-of e ∙ vacancy-back s

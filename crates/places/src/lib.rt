@@ -1,4 +1,4 @@
-// Walks over the item words, four to a place: the clock hand and its victim, a live place, the lowest vacant place.
+// Walks over the item words, four to a place: the clock hand and its victim, the lowest vacant place.
 ghost use mathlib.Core.Path.{_≡_};
 ghost use Prim.Native.Nat.{_+_, _*_, _<_, _≤_};
 ghost use lib.ListN.{length};

@@ -1,5 +1,5 @@
 -- Read and serve, a law a way out, in the code's own words. Assumes nothing.
-use Prim.Native.Nat.{ℕ, _+_, _*_, _^_, _<_, _≤_, _-_, _%_, _/_}
+use Prim.Native.Nat.{ℕ, _+_, _*_, _≤_, _-_, _%_, _/_}
 use mathlib.Core.Path.{_≡_, refl, sym, ap, _∙_}
 use mathlib.Core.Logic.{_≢_}
 use mathlib.Core.Bool.{Bool, true, false, not}
@@ -7,15 +7,15 @@ use mathlib.Core.Option.{none, some}
 use mathlib.Core.List.{List, [], _∷_}
 use lib.ListN.{length, getD, set}
 use lib.Seq.{set-out}
-use lib.Dec.{eqb, leb}
-use borrow.Author.Tests.{lt-ltb, le-ltb, eq-eqb, ne-eqb, le-leb, lt-leb, not-true, not-false}
+use lib.Dec.{eqb}
+use borrow.Author.Tests.{eq-eqb, ne-eqb, not-true, not-false}
 use Rattle.model.specs.Choice.{any, choose, first}
 use Rattle.model.specs.Memory.{Mem, damaged, mem, permission, place, stamp}
 use Rattle.model.specs.Yard.{right-lengths, sizes}
 use Rattle.model.specs.Stores.{recency, wholes}
-use Rattle.model.specs.Answers.{Answer, Call, absent, ahead, fresh, old, read, refused, serve}
+use Rattle.model.specs.Answers.{Answer, Call, absent, read, refused, serve}
 use Rattle.model.specs.Said.{said-reading}
-use Rattle.model.specs.Age.{age, bad-time, is-fresh, judge, standing, verdict}
+use Rattle.model.specs.Age.{bad-time, is-fresh, judge, verdict}
 use Rattle.model.specs.Calls.{Outcome, held, reading, serve-at, tell}
 use Rattle.model.specs.Lent.{lent-call}
 use Rattle.model.specs.AnyTable.{left}
@@ -133,37 +133,3 @@ marked-outside l i f t h = sym (ap (λ b. choose b (set l i 1) l) (not-false f t
 
 pub marked-in : (l : List ℕ) (i : ℕ) (f : Bool) → not f ≡ false → set l i 1 ≡ choose f (set l i 1) l
 marked-in l i f t = sym (ap (λ b. choose b (set l i 1) l) (not-false f t))
-
--- the ways out of the test of a stamp
-module _ (limit now s : ℕ) where
-  pub timely-standing : s ≡ standing → true ≡ is-fresh limit now s
-  unfolding is-fresh
-  timely-standing e = rw (eq-eqb s standing e)
-
-  pub timely-ahead : s ≢ standing → now < s → false ≡ is-fresh limit now s
-  unfolding is-fresh
-  timely-ahead ne l = rw (ne-eqb s standing ne, lt-leb s now l)
-
-  pub timely-aged : s ≢ standing → s ≤ now → leb (now - s) limit ≡ is-fresh limit now s
-  unfolding is-fresh
-  timely-aged ne l = rw (ne-eqb s standing ne, le-leb s now l)
-
--- the ways out of the judgement
-module _ (limit now v s : ℕ) where
-  pub says-standing : s ≡ standing → fresh (v % 2 ^ 32) 0 ≡ verdict limit now v s
-  unfolding verdict is-fresh age
-  says-standing e = rw (eq-eqb s standing e)
-
-  module _ (ne : s ≢ standing) where
-    pub says-ahead : now < s → ahead ≡ verdict limit now v s
-    unfolding verdict is-fresh age
-    says-ahead l = rw (ne-eqb s standing ne, lt-leb s now l, lt-ltb now s l)
-
-    module _ (le : s ≤ now) where
-      pub says-young : now - s ≤ limit → fresh (v % 2 ^ 32) (now - s) ≡ verdict limit now v s
-      unfolding verdict is-fresh age
-      says-young k = rw (ne-eqb s standing ne, le-leb s now le, le-leb (now - s) limit k)
-
-      pub says-old : limit < now - s → old (now - s) ≡ verdict limit now v s
-      unfolding verdict is-fresh age
-      says-old k = rw (ne-eqb s standing ne, le-leb s now le, lt-leb (now - s) limit k, le-ltb now s le)

@@ -1,13 +1,12 @@
 // Read, serve and find.
 ghost use mathlib.Core.Path.{_≡_};
-ghost use mathlib.Core.List.{List};
-ghost use Prim.Native.Nat.{ℕ, _+_, _*_, _<_, _≤_};
-ghost use lib.ListN.{length, set};
+ghost use Prim.Native.Nat.{_+_, _*_};
+ghost use lib.ListN.{set};
 ghost use Rattle.model.specs.Choice.{choose};
 ghost use Rattle.model.specs.Memory.{mem, permission, stamp};
 ghost use Rattle.model.specs.Yard.{sizes};
 ghost use Rattle.model.specs.Answers.{read, serve, find};
-ghost use Rattle.model.specs.Age.{verdict, is-fresh, bad-time};
+ghost use Rattle.model.specs.Age.{verdict, bad-time};
 ghost use Rattle.model.specs.Lent.{lent-call};
 ghost use Rattle.model.specs.Said.{said-reading, said-finding};
 ghost use Rattle.looking.specs.Look.{Passed};
@@ -15,43 +14,12 @@ ghost use Rattle.reading.specs.Serve.{Served};
 use model::Finding;
 use model::Reading;
 
-// The limit or the minute is out of range.
-pub fn is_bad_time(limit: u64, minute: u64) -> bool
-    ensures { λ r. ⌜ r ≡ bad-time limit minute ⌝ }
-{
-    (10080 < limit) | (minute == 18446744073709551615)
-}
-
-// What is said of a permission and its stamp.
-fn judged(permission: u64, stamp: u64, limit: u64, minute: u64) -> Reading
-    ensures { λ r. ⌜ said-reading r ≡ verdict limit minute permission stamp ⌝ }
-{
-    let told = (permission % 4294967296) as u32;
-    if stamp == 18446744073709551615 {
-        return Reading::Fresh {
-            permission: told,
-            age: 0,
-        };
-    }
-    if minute < stamp {
-        return Reading::Ahead;
-    }
-    let age = minute - stamp;
-    if age <= limit {
-        return Reading::Fresh {
-            permission: told,
-            age,
-        };
-    }
-    Reading::Old { age }
-}
-
 // The place of the hit is judged by its permission and stamp.
 fn judged_at(items: &[u64], place: u32, limit: u64, minute: u64) -> Reading
     ensures { λ r. ⌜ said-reading r ≡ verdict limit minute (permission (now (items .entry)) place) (stamp (now (items .entry)) place) ⌝ }
 {
     let at = 4 * (place as usize);
-    judged(
+    judging::judged(
         looking::get64(items, at + 1),
         looking::get64(items, at + 2),
         limit,
@@ -105,25 +73,12 @@ pub fn read(
         counters.len(),
         items.len(),
         animal,
-        is_bad_time(limit, minute),
+        judging::is_bad_time(limit, minute),
     );
     if no != 0 {
         return Reading::Refused(no);
     }
     read_good(slots, counters, items, animal, limit, minute)
-}
-
-// A stamp that makes a permission fresh.
-fn is_in_time(stamp: u64, limit: u64, minute: u64) -> bool
-    ensures { λ r. ⌜ r ≡ is-fresh limit minute stamp ⌝ }
-{
-    if stamp == 18446744073709551615 {
-        return true;
-    }
-    if minute < stamp {
-        return false;
-    }
-    minute - stamp <= limit
 }
 
 // Serve stores 1 in the recent word, and only where the answer is fresh.
@@ -169,7 +124,7 @@ fn serve_good(
     }
     let told = judged_at(items, w % 65536, limit, minute);
     let stamp = looking::get64(items, 4 * ((w % 65536) as usize) + 2);
-    mark_recent(items, w % 65536, is_in_time(stamp, limit, minute));
+    mark_recent(items, w % 65536, judging::is_in_time(stamp, limit, minute));
     told
 }
 
@@ -189,7 +144,7 @@ pub fn serve(
         counters.len(),
         items.len(),
         animal,
-        is_bad_time(limit, minute),
+        judging::is_bad_time(limit, minute),
     );
     if no != 0 {
         return Reading::Refused(no);

@@ -71,6 +71,72 @@ fn start(
     }
 }
 
+// A line that is no call of the table: the hand, a list, a poke, a dump, or nothing. Any other is not understood here.
+fn beside_the_calls(
+    line: Line,
+    number: u64,
+    slots: &mut [u32],
+    counters: &mut [u32],
+    items: &mut [u64],
+    records: &mut [u8],
+    out: &mut [u8],
+    at: usize,
+    hand: usize,
+) -> Turn
+    requires { ⌜ Room at (now out) ⌝ }
+    ensures { λ r. ⌜ Room (r .next) (now (out .entry)) ⌝ }
+{
+    match line {
+        Line::Blank => Turn { next: at, hand },
+        Line::Hand { at: new } => Turn {
+            next: showing::put_words(out, at, b"hand"),
+            hand: new as usize,
+        },
+        Line::List { size } => {
+            let next = showing::list_into(
+                slots,
+                counters,
+                items,
+                records,
+                out,
+                at,
+                size as usize,
+                number,
+            );
+            Turn { next, hand }
+        }
+        Line::PokeSlots { at: i, word } => {
+            let poked = showing::poke32(slots, i, word);
+            Turn {
+                next: showing::tell_poked(out, at, poked),
+                hand,
+            }
+        }
+        Line::PokeCounters { at: i, word } => {
+            let poked = showing::poke32(counters, i, word);
+            Turn {
+                next: showing::tell_poked(out, at, poked),
+                hand,
+            }
+        }
+        Line::PokeItems { at: i, word } => {
+            let poked = showing::poke64(items, i, word);
+            Turn {
+                next: showing::tell_poked(out, at, poked),
+                hand,
+            }
+        }
+        Line::Dump => Turn {
+            next: showing::dump(slots, counters, items, out, at),
+            hand,
+        },
+        _ => Turn {
+            next: showing::not_understood(out, at, number),
+            hand,
+        },
+    }
+}
+
 // A line that makes no fresh table: its call on the table there is, its answer, and the hand afterwards.
 fn on_table(
     line: Line,
@@ -87,15 +153,6 @@ fn on_table(
     ensures { λ r. ⌜ Room (r .next) (now (out .entry)) ⌝ }
 {
     match line {
-        Line::Blank => Turn { next: at, hand },
-        Line::NotUnderstood => Turn {
-            next: showing::not_understood(out, at, number),
-            hand,
-        },
-        Line::Fresh { .. } => Turn {
-            next: showing::not_understood(out, at, number),
-            hand,
-        },
         Line::Read {
             animal,
             limit,
@@ -210,48 +267,7 @@ fn on_table(
                 hand: turn.hand,
             }
         }
-        Line::Hand { at: new } => Turn {
-            next: showing::put_words(out, at, b"hand"),
-            hand: new as usize,
-        },
-        Line::List { size } => {
-            let next = showing::list_into(
-                slots,
-                counters,
-                items,
-                records,
-                out,
-                at,
-                size as usize,
-                number,
-            );
-            Turn { next, hand }
-        }
-        Line::PokeSlots { at: i, word } => {
-            let poked = showing::poke32(slots, i, word);
-            Turn {
-                next: showing::tell_poked(out, at, poked),
-                hand,
-            }
-        }
-        Line::PokeCounters { at: i, word } => {
-            let poked = showing::poke32(counters, i, word);
-            Turn {
-                next: showing::tell_poked(out, at, poked),
-                hand,
-            }
-        }
-        Line::PokeItems { at: i, word } => {
-            let poked = showing::poke64(items, i, word);
-            Turn {
-                next: showing::tell_poked(out, at, poked),
-                hand,
-            }
-        }
-        Line::Dump => Turn {
-            next: showing::dump(slots, counters, items, out, at),
-            hand,
-        },
+        _ => beside_the_calls(line, number, slots, counters, items, records, out, at, hand),
     }
 }
 

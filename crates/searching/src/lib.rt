@@ -204,7 +204,7 @@ fn free_at(slots: &[u32], b: u32, m: u32) -> usize
     first_free(d, 3, w[3])
 }
 
-// Room for an entry whose buckets are `first` and `second`, among n buckets and m places. Mostly the first has it, and then no queue is made.
+// Room for an entry whose buckets are `first` and `second`, among n buckets and m places. Where the first has it, no queue is made.
 pub fn search(slots: &[u32], n: u32, m: u32, first: u32, second: u32) -> Found
     requires { ⌜ Asked (now slots) n first second ⌝ }
     ensures { λ r. ⌜ FoundIs n m (now (slots .entry)) first second r ⌝ }

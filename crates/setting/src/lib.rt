@@ -166,7 +166,7 @@ pub fn set_cut(
     }
 }
 
-// Not by way of the cut form, so that an update is one piece of code that counts no stores: it takes half the time.
+// Set. Beside its cut form and not by way of it: an update is then compiled in one piece, and takes half the time.
 pub fn set(
     slots: &mut [u32],
     counters: &mut [u32],

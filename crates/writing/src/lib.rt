@@ -123,7 +123,7 @@ pub fn delete_cut(
     delete_looked(slots, counters, items, animal, looked, k)
 }
 
-// Not by way of the cut form: each function that two others call is a call more in the cabinet.
+// Delete. Beside its cut form and not by way of it: a function that several call is not inlined.
 pub fn delete(slots: &mut [u32], counters: &mut [u32], items: &mut [u64], animal: u64) -> Deleting
     ensures { λ r. ⌜ WholeAs (mem (now (slots .entry)) (now (counters .entry)) (now (items .entry))) (delete animal)
         (mem (now (slots .exit)) (now (counters .exit)) (now (items .exit))) (said-deleting r) ⌝ }

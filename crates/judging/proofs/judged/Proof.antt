@@ -1,8 +1,8 @@
--- `reading::judged` meets its contract. Assumes nothing.
-use Rattle.reading.proofs.Reading.{says-standing, says-ahead, says-young, says-old}
+-- `judging::judged` meets its contract. Assumes nothing.
+use Rattle.judging.proofs.Judging.{says-standing, says-ahead, says-young, says-old}
 use borrow.Author.Needs.{needs}
-use Rattle.reading.proofs.judged.Statement.{statement}
-use Rattle.reading.proofs.judged.Tie as tie
+use Rattle.judging.proofs.judged.Statement.{statement}
+use Rattle.judging.proofs.judged.Tie as tie
 
 cast-told : tie.Need-cast-told
 cast-told c = search needs

@@ -1,7 +1,7 @@
--- `reading::is_in_time` meets its contract. Assumes nothing.
-use Rattle.reading.proofs.Reading.{timely-standing, timely-ahead, timely-aged}
-use Rattle.reading.proofs.is_in_time.Statement.{statement}
-use Rattle.reading.proofs.is_in_time.Tie as tie
+-- `judging::is_in_time` meets its contract. Assumes nothing.
+use Rattle.judging.proofs.Judging.{timely-standing, timely-ahead, timely-aged}
+use Rattle.judging.proofs.is_in_time.Statement.{statement}
+use Rattle.judging.proofs.is_in_time.Tie as tie
 
 returns : tie.Need-returns
 returns c = search timely-standing
