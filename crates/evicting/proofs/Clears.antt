@@ -9,13 +9,12 @@ use mathlib.Core.Bool.{Bool, true, false, _&&_}
 use mathlib.Core.List.{List, [], _++_}
 use lib.ListN.{length, set}
 use lib.Seq.{getD-set-other}
-use Rattle.storing.specs.Made.{Made, Put}
+use Rattle.blocks.specs.Made.{Made, Put}
 use Rattle.model.specs.Memory.{Mem, animal, is-recent, live, mem, recent}
 use Rattle.model.specs.Clock.{next-hand, passed-recent, prepend}
-use Rattle.places.proofs.Laws.{hand-below, hand-on}
-use Rattle.storing.proofs.Laws.{lift-item, made-append, made-nil}
+use Rattle.places.proofs.Laws.{hand-below, hand-on, hand-back as hand-wraps}
+use Rattle.blocks.proofs.Laws.{lift-item, made-append, made-nil}
 use Rattle.evicting.specs.Evict.{clear-stores}
-use Rattle.places.proofs.Laws.{hand-back as hand-wraps}
 
 -- a clear of place h isn't seen at another place
 same-at : (g h : ℕ) (t : List ℕ) → g ≢ h

@@ -2,26 +2,18 @@
 use Prim.Native.Nat.{ℕ}
 use mathlib.Core.Path.{_≡_, refl, sym, ap, _∙_, ap₂}
 use Rattle.model.specs.Memory.{Mem}
-use Rattle.model.specs.Answers.{Answer, absent, ahead, at-place, deleted, evicted, fresh, listed, old, refused, started, stored}
+use Rattle.model.specs.Choice.{choose}
+use Rattle.model.specs.Answers.{Answer, is, paper, value}
 use Rattle.model.specs.Said.{said-evicting}
-use Rattle.evicting.specs.Evict.{EvictCut, Evicted}
+use Rattle.evicting.specs.Evict.{Evicted, TurnsAs, TurnedAs}
 use Rattle.model.specs.declared.Evicting.{Evicting}
 use Rattle.model.specs.declared.Evicting.the-variants as answer
 use Rattle.evicting.specs.declared.Turned.{Turned}
+use Rattle.model.specs.Calls.{Outcome}
 
 -- what the answer said, read back
 abbrev unsaid : Answer → Evicting
-unsaid (refused n) = answer.Refused n
-unsaid absent = answer.Refused 0
-unsaid (fresh v a) = answer.Refused 0
-unsaid (old a) = answer.Refused 0
-unsaid ahead = answer.Refused 0
-unsaid (stored v n) = answer.Refused 0
-unsaid deleted = answer.Refused 0
-unsaid (evicted x n h) = answer.Evicted x n
-unsaid started = answer.Refused 0
-unsaid (listed n bs) = answer.Refused 0
-unsaid (at-place p) = answer.Refused 0
+unsaid a = choose (is 6 a) (answer.Evicted (value a 1) (value a 2)) (answer.Refused (paper a .number))
 
 unsaid-said : (a : Evicting) (h : ℕ) → unsaid (said-evicting a h) ≡ a
 unsaid-said (answer.Evicted x n) h = refl
@@ -34,11 +26,10 @@ same-turned r r′ {a} {h} t t′ b b′ =
     ap₂ (λ (x : Evicting) (n : ℕ). record { answer = x; hand = record { at = n } })
     (sym (unsaid-said (r .answer) (r .hand .at)) ∙ ap unsaid (t ∙ sym t′) ∙ unsaid-said (r′ .answer) (r′ .hand .at)) (b ∙ sym b′)
 
--- any two outcomes that the promise allows for the same memory, hand and cut are equal
-pub decides-evict-cut : {m m₁ m₂ : Mem} {hand k : ℕ} {r₁ r₂ : Turned} → EvictCut m hand k m₁ r₁ → EvictCut m hand k m₂ r₂
-    → (r₁ ≡ r₂) × (m₁ ≡ m₂)
-decides-evict-cut {r₁ = r₁} {r₂ = r₂} d e = (same-turned r₁ r₂ (d .told) (e .told) (d .back) (e .back), d .left ∙ sym (e .left))
+-- any two outcomes that a promise allows are equal
+module _ {o : Outcome} {hand : ℕ} {m m₁ m₂ : Mem} {r₁ r₂ : Turned} where
+  pub decides-evict-cut : {k : ℕ} → TurnsAs o hand k m m₁ r₁ → TurnsAs o hand k m m₂ r₂ → (r₁ ≡ r₂) × (m₁ ≡ m₂)
+  decides-evict-cut d e = (same-turned r₁ r₂ (d .does .told) (e .does .told) (d .back) (e .back), d .does .left ∙ sym (e .does .left))
 
-pub decides-evict : {m m₁ m₂ : Mem} {hand : ℕ} {r₁ r₂ : Turned} → Evicted m hand m₁ r₁ → Evicted m hand m₂ r₂
-    → (r₁ ≡ r₂) × (m₁ ≡ m₂)
-decides-evict {r₁ = r₁} {r₂ = r₂} d e = (same-turned r₁ r₂ (d .told) (e .told) (d .back) (e .back), d .left ∙ sym (e .left))
+  pub decides-evict : TurnedAs o hand m m₁ r₁ → TurnedAs o hand m m₂ r₂ → (r₁ ≡ r₂) × (m₁ ≡ m₂)
+  decides-evict d e = (same-turned r₁ r₂ (d .did .told) (e .did .told) (d .back) (e .back), d .did .left ∙ sym (e .did .left))

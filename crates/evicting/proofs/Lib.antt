@@ -1,4 +1,3 @@
 pub mod Clears
-pub mod Plans
 pub mod Turning
 pub mod Decides

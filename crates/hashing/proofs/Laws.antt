@@ -10,7 +10,7 @@ use Rattle.model.specs.Memory.{tag}
 use Rattle.model.specs.Hash.{Size, bytes, fnv, fnv-step, hash, other-bucket, tag-from}
 use Rattle.model.specs.AnyTable.{counter}
 use Rattle.model.proofs.Hash.{size-most, size-pos}
-use Rattle.model.proofs.Laws.{first-is}
+use Rattle.model.proofs.ListLaws.{first-is}
 use Rattle.hashing.specs.Homes.{HomesAre}
 
 -- the product of two numbers of k bits has at most k + k

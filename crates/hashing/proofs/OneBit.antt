@@ -10,8 +10,9 @@ use mathlib.Core.List.{List, [], _∷_}
 use lib.Dec.{eqb, leb, T}
 use borrow.Author.Tests.{ne-eqb, eqb-true, leb-true, le-leb, lt-leb}
 use lib.Count.{ones, onesIn, ones-step}
-use Rattle.model.specs.Yard.{good-slots, one-of, sizes}
-use Rattle.model.proofs.Laws.{bool}
+use Rattle.model.specs.Shape.{good-slots, four}
+use Rattle.model.proofs.ListLaws.{bool}
+use Rattle.model.specs.Choice.{one-of}
 
 pub ones-in : (d n : ℕ) → n < 2 ^ d → ones n ≡ onesIn d n
 unfolding onesIn ones
@@ -62,21 +63,21 @@ below f (suc n) t k h =
 -- outside of 8 to 8,192, or one bit exactly where the length is good
 test : ℕ → Bool
 unfolding good-slots onesIn
-test n = same (leb 8 n && eqb (onesIn 14 n) 1) (good-slots 4 4 sizes n)
+test n = same (leb 8 n && eqb (onesIn 14 n) 1) (good-slots four n)
 
 passed : T (all-below test 8193)
 unfolding test good-slots onesIn
 passed = tt
 
-tested : (n : ℕ) → n ≤ 8192 → (leb 8 n && eqb (ones n) 1) ≡ good-slots 4 4 sizes n
+tested : (n : ℕ) → n ≤ 8192 → (leb 8 n && eqb (ones n) 1) ≡ good-slots four n
 unfolding test
 tested n h =
-    rw (ones-in 14 n (omega arith)) (same-eq (leb 8 n && eqb (onesIn 14 n) 1) (good-slots 4 4 sizes n) (below test 8193 passed n (omega arith)))
+    rw (ones-in 14 n (omega arith)) (same-eq (leb 8 n && eqb (onesIn 14 n) 1) (good-slots four n) (below test 8193 passed n (omega arith)))
 
-pub short-length : (n : ℕ) → n < 8 → false ≡ good-slots 4 4 sizes n
+pub short-length : (n : ℕ) → n < 8 → false ≡ good-slots four n
 short-length n h = sym (ap (λ b. b && eqb (ones n) 1) (lt-leb 8 n h)) ∙ tested n (omega arith)
 
-pub middle-length : (n : ℕ) → 8 ≤ n → n ≤ 8192 → eqb (ones n) 1 ≡ good-slots 4 4 sizes n
+pub middle-length : (n : ℕ) → 8 ≤ n → n ≤ 8192 → eqb (ones n) 1 ≡ good-slots four n
 middle-length n l h = sym (ap (λ b. b && eqb (ones n) 1) (le-leb 8 n l)) ∙ tested n h
 
 -- beyond 8,192 the number of buckets is none of the good ones
@@ -87,8 +88,8 @@ above n (k ∷ ks) t h =
     let ne : n ≢ k = λ e. absurd (omega arith) in
     rw (ne-eqb n k ne) (above n ks (back (leb k 2048) (all-most ks) t) h)
 
-pub long-length : (n : ℕ) → 8192 < n → false ≡ good-slots 4 4 sizes n
+pub long-length : (n : ℕ) → 8192 < n → false ≡ good-slots four n
 unfolding good-slots
 long-length n h =
-    bool (λ b. false ≡ (b && one-of (n / 4) sizes)) (eqb (n % 4) 0)
-    (λ e. let z : n % 4 ≡ 0 = eqb-true (n % 4) 0 e in sym (above (n / 4) sizes tt (omega arith))) λ e. refl
+    bool (λ b. false ≡ (b && one-of (n / 4) (four .sizes))) (eqb (n % 4) 0)
+    (λ e. let z : n % 4 ≡ 0 = eqb-true (n % 4) 0 e in sym (above (n / 4) (four .sizes) tt (omega arith))) λ e. refl

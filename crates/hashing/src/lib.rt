@@ -2,7 +2,7 @@
 ghost use mathlib.Core.Path.{_≡_};
 ghost use Prim.Native.Nat.{_*_, _%_, _^_, _<_, min};
 ghost use Rattle.model.specs.Hash.{fnv-step, hash, tag-from, odd-up, Size, spread, other-bucket};
-ghost use Rattle.model.specs.Yard.{good-slots, good-lengths, sizes};
+ghost use Rattle.model.specs.Shape.{good-slots, good-lengths, four};
 ghost use Rattle.hashing.specs.Homes.{HomesAre};
 
 // h times p, kept modulo 2^32.
@@ -123,7 +123,7 @@ pub fn homes_of(animal: u64, n: u32, v: u32) -> Homes
 
 // A slots run is good if its length has one bit set, and is 8 to 8,192.
 pub fn good_slots_length(s: usize) -> bool
-    ensures { λ r. ⌜ r ≡ good-slots 4 4 sizes s ⌝ }
+    ensures { λ r. ⌜ r ≡ good-slots four s ⌝ }
 {
     if s < 8 {
         return false;
@@ -136,7 +136,7 @@ pub fn good_slots_length(s: usize) -> bool
 
 // The three lengths are those of a table.
 pub fn lengths_are_good(s: usize, v: usize, i: usize) -> bool
-    ensures { λ r. ⌜ r ≡ good-lengths 4 4 sizes s v i ⌝ }
+    ensures { λ r. ⌜ r ≡ good-lengths four s v i ⌝ }
 {
     let slots = good_slots_length(s);
     slots & (((1 <= v) & (v <= 1024)) & ((i % 4 == 0) & ((4 <= i) & (i <= 16384))))

@@ -1,33 +1,29 @@
 -- Laws that the proofs of the list's functions cite. Assumes nothing.
 use Prim.Native.Nat.{ℕ, _+_, _*_, _^_, _<_, suc, _≤_, _-_, _%_, _/_, zero}
-use native.Mathlib.Nat.{zero-add, add-zero, sub-zero}
+use native.Mathlib.Nat.{zero-add, sub-zero}
 use native.Mathlib.Numerals.{add-one}
 use native.Mathlib.Omega.{arith}
 use mathlib.Core.Path.{_≡_, refl, sym, ap, ap₂, _∙_}
 use mathlib.Core.Bool.{Bool, true, false, not}
 use mathlib.Core.List.{List, [], _∷_, _++_}
-use lib.ListN.{length, set, length-append, take, drop}
-use lib.Seq.{sets, length-sets, sets-eq, take-at}
+use lib.ListN.{length, length-append, take, drop}
+use lib.Seq.{sets, sets-eq, take-at}
 use borrow.Author.Tests.{lt-ltb, le-ltb, eq-eqb, ne-eqb, not-true, not-false}
 use Rattle.model.specs.Choice.{choose, range}
 use Rattle.model.specs.Memory.{Mem, animal, live, mem, permission, stamp}
 use Rattle.model.specs.Hash.{bytes}
-use Rattle.model.specs.Yard.{good-lengths, right-lengths, sizes}
+use Rattle.model.specs.Shape.{good-lengths, right-lengths, Ways}
 use Rattle.model.specs.Answers.{Answer, listed, refused}
 use Rattle.model.specs.Listing.{list-record, listing, live-count, records}
 use Rattle.model.specs.Calls.{refuse, tell}
 use Rattle.model.specs.Said.{listed-into, said-listing}
 use Rattle.model.specs.declared.Listing.{Listing}
 use Rattle.model.specs.declared.Listing.the-variants.{Listed, Refused}
-use Rattle.model.proofs.Laws.{bool}
-use Rattle.model.proofs.Lent.{fit, four-sizes}
-use Rattle.listing.specs.List.{ListedAs, Put, list-answer, place-record}
-
--- a list of n bytes has n
-pub bytes-length : (n x : ℕ) → length (bytes n x) ≡ n
-unfolding bytes
-bytes-length zero x = refl
-bytes-length (suc n) x = ap suc (bytes-length n (x / 256))
+use Rattle.model.proofs.ListLaws.{bool}
+use Rattle.model.proofs.Lent.{fit}
+use Rattle.buffer.specs.Put.{Put}
+use Rattle.listing.specs.List.{ListedAs, list-answer, place-record}
+use Rattle.buffer.proofs.Putting.{bytes-length, put-length, put-both, sets-both}
 
 -- a record has 20
 pub record-length : (l : List ℕ) (p : ℕ) → length (list-record l p) ≡ 20
@@ -103,23 +99,6 @@ count-most l (suc n) p =
     (λ t. omega (arith, count-most l n (suc p)))
     λ f. omega (arith, count-most l n (suc p))
 
--- bytes put one after the other
-sets-append : (l : List ℕ) (at : ℕ) (xs ys : List ℕ) → sets l at (xs ++ ys) ≡ sets (sets l at xs) (at + length xs) ys
-sets-append l at [] ys = rw add-zero
-sets-append l at (x ∷ xs) ys =
-    let e : at + suc (length xs) ≡ suc at + length xs = omega arith in
-    rw e (sets-append (set l at x) (suc at) xs ys)
-
-pub put-append : {xs ys l l₁ l₂ : List ℕ} {at a b : ℕ} → Put xs at l l₁ a → Put ys a l₁ l₂ b → Put (xs ++ ys) at l l₂ b
-put-append {xs} {ys} {l} {l₁} {l₂} {at} {a} {b} f g =
-    record {
-      bytes-put = g .bytes-put ∙ rw (f .bytes-put, f .next) (sym (sets-append l at xs ys));
-      next = omega (arith, f .next, g .next, length-append xs ys);
-    }
-
-pub put-length : {xs l l′ : List ℕ} {at a : ℕ} → Put xs at l l′ a → length l′ ≡ length l
-put-length {xs} {l} {l′} {at} {a} f = rw (f .bytes-put) (length-sets l at xs)
-
 -- there is room for a live place's three numbers
 pub room-live : (l : List ℕ) (p at : ℕ) (b : List ℕ) → (animal l p ≡ 0 → ⊥) → at + length (place-record l p) ≤ length b → at + 20 ≤ length b
 room-live l p at b h fits = omega (arith, ap length (live-record l p h), record-length l p)
@@ -139,7 +118,7 @@ pub put-live : (l : List ℕ) (p : ℕ) {b b₁ b₂ b₃ : List ℕ} {at a₁ a
     → Put (bytes 8 (animal l p)) at b b₁ a₁ → Put (bytes 4 (permission l p % 2 ^ 32)) a₁ b₁ b₂ a₂ → Put (bytes 8 (stamp l p)) a₂ b₂ b₃ a₃
     → Put (place-record l p) at b b₃ a₃
 unfolding list-record
-put-live l p h f g k = rw (live-record l p h) (put-append f (put-append g k))
+put-live l p h f g k = rw (live-record l p h) (put-both f (put-both g k))
 
 pub put-vacant : (l : List ℕ) (p : ℕ) {b : List ℕ} {at : ℕ} → animal l p ≡ 0 → Put (place-record l p) at b b at
 put-vacant l p h = rw (vacant-record l p h) (record { bytes-put = refl; next = omega arith })
@@ -170,7 +149,7 @@ putting-more {l} {b₀} {b} {b′} {m} {at} {at′} {p} h i f =
       within = omega arith;
       same = put-length f ∙ i .same;
       room = omega (arith, i .room, f .next, put-length f, ap length (records-from l m p h), length-append (place-record l p) more);
-      rest = rw (f .bytes-put, f .next) (sym (sets-append b at (place-record l p) more) ∙ ap (sets b at) (sym (records-from l m p h)) ∙ i .rest);
+      rest = rw (f .bytes-put, f .next) (sets-both (place-record l p) more b at ∙ ap (sets b at) (sym (records-from l m p h)) ∙ i .rest);
     }
 
 pub putting-done : {l b₀ b : List ℕ} {m at p : ℕ} → m ≤ p → length (records l (range 0 m)) ≤ length b₀ → Putting l m b₀ b at p
@@ -181,12 +160,12 @@ putting-done {l} {b₀} {b} {m} {at} {p} h fits i =
     sym e ∙ i .rest ∙ sets-eq (records l (range 0 m)) b₀ 0 (omega arith) ∙ rw zero-add
 
 -- the list's answer is decided by the lengths, and then by the room for 20 bytes a live place
-module _ (m : Mem) (b : List ℕ) where
-  answer-is : {g : Bool} → right-lengths 4 4 sizes m ≡ g
-      → list-answer m b ≡ choose g (tell (listing (m .items) (length (m .items) / 4) (length b))) (refuse 1) .answer
+module _ (W : Ways) (m : Mem) (b : List ℕ) where
+  answer-is : {g : Bool} → right-lengths W m ≡ g
+      → list-answer W m b ≡ choose g (tell (listing (m .items) (length (m .items) / 4) (length b))) (refuse 1) .answer
   answer-is w = ap (λ (g : Bool). choose g (tell (listing (m .items) (length (m .items) / 4) (length b))) (refuse 1) .answer) w
 
-  listed-as : {a : Answer} {b′ : List ℕ} {r : Listing} → list-answer m b ≡ a → said-listing r b′ ≡ a → b′ ≡ listed-into a b → ListedAs m b b′ r
+  listed-as : {a : Answer} {b′ : List ℕ} {r : Listing} → list-answer W m b ≡ a → said-listing r b′ ≡ a → b′ ≡ listed-into a b → ListedAs W m b b′ r
   listed-as e f g = record { told = f ∙ sym e; left = g ∙ ap (λ (a : Answer). listed-into a b) (sym e) }
 
 listing-short : (l : List ℕ) (M size : ℕ) → size < 20 * live-count l (range 0 M) → listing l M size ≡ refused 9
@@ -199,12 +178,12 @@ unfolding listing
 listing-whole l M size h = rw (le-ltb size (20 * live-count l (range 0 M)) h)
 
 -- the list itself, by the ways through the code
-module _ (s v l b : List ℕ) {good : Bool} (e : good ≡ good-lengths 4 4 sizes (length s) (length v) (length l)) where
-  pub list-wrong : not good ≡ true → ListedAs (mem s v l) b b (Refused 1)
-  list-wrong t = listed-as (mem s v l) b (answer-is (mem s v l) b (sym e ∙ not-true good t)) refl refl
+module _ (W : Ways) (s v l b : List ℕ) {good : Bool} (e : good ≡ good-lengths W (length s) (length v) (length l)) where
+  pub list-wrong : not good ≡ true → ListedAs W (mem s v l) b b (Refused 1)
+  list-wrong t = listed-as W (mem s v l) b (answer-is W (mem s v l) b (sym e ∙ not-true good t)) refl refl
 
   module _ (t : not good ≡ false) where
-    right : right-lengths 4 4 sizes (mem s v l) ≡ true
+    right : right-lengths W (mem s v l) ≡ true
     right = sym e ∙ not-false good t
 
     abbrev M : ℕ
@@ -212,23 +191,23 @@ module _ (s v l b : List ℕ) {good : Bool} (e : good ≡ good-lengths 4 4 sizes
 
     module _ {n : ℕ} (c : n ≡ live-count l (range 0 M)) where
       pub list-few : n ≤ 4096
-      list-few = omega (arith, c, count-most l M 0, fit 4 4 sizes (omega arith) four-sizes (mem s v l) right .few)
+      list-few = omega (arith, c, count-most l M 0, fit W (mem s v l) right .few)
 
-      pub list-short : length b < 20 * n → ListedAs (mem s v l) b b (Refused 9)
+      pub list-short : length b < 20 * n → ListedAs W (mem s v l) b b (Refused 9)
       list-short h =
-          listed-as (mem s v l) b (answer-is (mem s v l) b right ∙ listing-short l M (length b) (omega (arith, c))) refl refl
+          listed-as W (mem s v l) b (answer-is W (mem s v l) b right ∙ listing-short l M (length b) (omega (arith, c))) refl refl
 
       module _ (h : 20 * n ≤ length b) where
         pub list-room : length (records l (range 0 M)) ≤ length b
         list-room = omega (arith, c, records-length l (range 0 M))
 
         pub list-written : {b′ : List ℕ} → b′ ≡ records l (range 0 M) ++ drop (length (records l (range 0 M))) b
-            → ListedAs (mem s v l) b b′ (Listed n)
+            → ListedAs W (mem s v l) b b′ (Listed n)
         list-written {b′} f =
             let front : take (20 * n) b′ ≡ records l (range 0 M) =
             ap (take (20 * n)) f
             ∙ take-at (records l (range 0 M)) (drop (length (records l (range 0 M))) b) (20 * n) (omega (arith, c, records-length l (range 0 M))) in
-            listed-as (mem s v l) b
-            (answer-is (mem s v l) b right ∙ listing-whole l M (length b) (omega (arith, c)))
+            listed-as W (mem s v l) b
+            (answer-is W (mem s v l) b right ∙ listing-whole l M (length b) (omega (arith, c)))
             (ap₂ listed c front)
             f

@@ -5,9 +5,10 @@ ghost use Prim.Native.Nat.{_+_, _*_, _<_, _≤_};
 ghost use lib.ListN.{length, drop};
 ghost use Rattle.model.specs.Choice.{choose, range};
 ghost use Rattle.model.specs.Memory.{mem, live};
-ghost use Rattle.model.specs.Hash.{bytes};
 ghost use Rattle.model.specs.Listing.{live-count, records};
-ghost use Rattle.listing.specs.List.{ListedAs, Put, place-record};
+ghost use Rattle.model.specs.Shape.{four};
+ghost use Rattle.buffer.specs.Put.{Put};
+ghost use Rattle.listing.specs.List.{ListedAs, place-record};
 
 // 1 for a live place, 0 for a vacant one.
 fn one_if_live(items: &[u64], p: usize) -> usize
@@ -34,44 +35,6 @@ fn count_live(items: &[u64], m: usize) -> usize
     n
 }
 
-// The eight bytes of a number, low byte first, from `at` on; the position behind them. Written out, the stores become one.
-fn put_eight(buffer: &mut [u8], at: usize, x: u64) -> usize
-    requires { ⌜ at + 8 ≤ length (now buffer) ⌝ }
-    ensures { λ r. ⌜ Put (bytes 8 x) at (now (buffer .entry)) (now (buffer .exit)) r ⌝ }
-{
-    buffer[at] = (x % 256) as u8;
-    let x1 = x / 256;
-    buffer[at + 1] = (x1 % 256) as u8;
-    let x2 = x1 / 256;
-    buffer[at + 2] = (x2 % 256) as u8;
-    let x3 = x2 / 256;
-    buffer[at + 3] = (x3 % 256) as u8;
-    let x4 = x3 / 256;
-    buffer[at + 4] = (x4 % 256) as u8;
-    let x5 = x4 / 256;
-    buffer[at + 5] = (x5 % 256) as u8;
-    let x6 = x5 / 256;
-    buffer[at + 6] = (x6 % 256) as u8;
-    let x7 = x6 / 256;
-    buffer[at + 7] = (x7 % 256) as u8;
-    at + 8
-}
-
-// The four lowest bytes of a number, low byte first, from `at` on; the position behind them.
-fn put_four(buffer: &mut [u8], at: usize, x: u64) -> usize
-    requires { ⌜ at + 4 ≤ length (now buffer) ⌝ }
-    ensures { λ r. ⌜ Put (bytes 4 x) at (now (buffer .entry)) (now (buffer .exit)) r ⌝ }
-{
-    buffer[at] = (x % 256) as u8;
-    let x1 = x / 256;
-    buffer[at + 1] = (x1 % 256) as u8;
-    let x2 = x1 / 256;
-    buffer[at + 2] = (x2 % 256) as u8;
-    let x3 = x2 / 256;
-    buffer[at + 3] = (x3 % 256) as u8;
-    at + 4
-}
-
 // The record of a live place from `at` on, and nothing for a vacant one; the position behind it.
 fn put_place(items: &[u64], p: usize, buffer: &mut [u8], at: usize) -> usize
     requires { ⌜ (4 * p + 2 < length (now items)) × (at + length (place-record (now items) p) ≤ length (now buffer)) ⌝ }
@@ -84,9 +47,9 @@ fn put_place(items: &[u64], p: usize, buffer: &mut [u8], at: usize) -> usize
     }
     let permission = items[word + 1];
     let stamp = items[word + 2];
-    let behind_animal = put_eight(buffer, at, animal);
-    let behind_permission = put_four(buffer, behind_animal, permission % 4294967296);
-    put_eight(buffer, behind_permission, stamp)
+    let behind_animal = buffer::put_eight(buffer, at, animal);
+    let behind_permission = buffer::put_four(buffer, behind_animal, permission % 4294967296);
+    buffer::put_eight(buffer, behind_permission, stamp)
 }
 
 // The records of the live ones among the first m places, at the buffer's front.
@@ -104,7 +67,7 @@ fn put_places(items: &[u64], m: usize, buffer: &mut [u8])
 
 // The list: refusal 1 for lengths that are no table's, 9 for a buffer that is too short; else how many records it wrote.
 pub fn list(slots: &[u32], counters: &[u32], items: &[u64], buffer: &mut [u8]) -> model::Listing
-    ensures { λ r. ⌜ ListedAs (mem (now (slots .entry)) (now (counters .entry)) (now (items .entry))) (now (buffer .entry)) (now (buffer .exit)) r ⌝ }
+    ensures { λ r. ⌜ ListedAs four (mem (now (slots .entry)) (now (counters .entry)) (now (items .entry))) (now (buffer .entry)) (now (buffer .exit)) r ⌝ }
 {
     let are_good = hashing::lengths_are_good(slots.len(), counters.len(), items.len());
     if !are_good {

@@ -1,3 +1,5 @@
-pub mod Laws
-pub mod Asked
+pub mod Early
+pub mod HomesLie
+pub mod OwnWords
 pub mod Looking
+pub mod SlotOf

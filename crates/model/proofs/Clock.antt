@@ -18,7 +18,7 @@ use Rattle.model.specs.Memory.{animal, is-recent, live, place, recent}
 use Rattle.model.specs.Clock.{Victim, clears, next-hand, passed-recent, prepend, seek-victim, takes, victim}
 use Rattle.model.specs.Row.{Turn, row-clock}
 use Rattle.model.specs.WellFormed.{Live}
-use Rattle.model.proofs.Laws.{bool, true-false}
+use Rattle.model.proofs.ListLaws.{bool, true-false}
 
 next-on : (M h : ℕ) → h + 1 < M → next-hand M h ≡ h + 1
 unfolding next-hand

@@ -10,26 +10,25 @@ use mathlib.Core.List.{List, [], _∷_, append-nil}
 use lib.ListN.{length, getD, length-append, take}
 use lib.Seq.{getD-set-same, take-nil, take-append-le, take-all}
 use borrow.Author.Tests.{eq-eqb, ne-eqb}
-use lib.Ieee.{odd}
 use Rattle.model.specs.Choice.{choose}
 use Rattle.model.specs.Memory.{Mem, animal, place, word}
-use Rattle.model.specs.Yard.{Yard, counter-at, counter-of}
+use Rattle.model.specs.Shape.{Shape, counter-at, counter-of}
 use Rattle.model.specs.Stores.{Block, Store, apply, apply-all, bump, counted, enter, item-to, move, recency, remove, slot-to, stores}
 use Rattle.model.specs.Stores.{stores-of, update, whole, wholes}
 use Rattle.model.specs.Answers.{Answer, refused}
 use Rattle.model.specs.Age.{bad-time, judge}
-use Rattle.model.specs.Calls.{Outcome, asked, busy, hit, hurt, place-at, reading, tell}
+use Rattle.model.specs.Calls.{Outcome, asked, busy, hit, home-damage, place-at, reading, tell}
 use Rattle.model.specs.WellFormed.{WellFormed}
-use Rattle.model.proofs.Lawful.{Lawful}
-use Rattle.model.proofs.Laws.{all-append, bool, take-past}
+use Rattle.model.proofs.ShapeLaws.{Lawful}
+use Rattle.model.proofs.ListLaws.{all-append, bool, take-past}
 use Rattle.model.proofs.Calm.{calm, quick}
-use Rattle.model.proofs.Keep.{Fits, keep}
+use Rattle.model.proofs.KeepBlocks.{Fits, keep}
 use Rattle.model.proofs.View.{Entry, View, view-stores, view-told}
-use Rattle.model.proofs.Agree.{read-walk}
+use Rattle.model.proofs.ReadWalk.{read-walk}
 use Rattle.model.proofs.Spare.{spares, spares-recent, subject, view}
 
 -- in m′ a read of any animal gives busy, or what it gives in m, or, for animal a only, what it gives in m″
-abbrev pub Seen : Yard → ℕ → Mem → Mem → Mem → Type 0
+abbrev pub Seen : Shape → ℕ → Mem → Mem → Mem → Type 0
 Seen Y a m m″ m′ = (x limit now : ℕ)
     → (reading Y m′ x limit now ≡ refused 8)
     ⊎ ((reading Y m′ x limit now ≡ reading Y m x limit now)
@@ -58,14 +57,14 @@ quiet-counters (slot-to i x ∷ ss) m (suc k) h = quiet-counters ss (apply (slot
 quiet-counters (item-to i x ∷ ss) m (suc k) h = quiet-counters ss (apply (item-to i x) m) k h
 
 -- two memories in which the animal is refused before memory matters, or one of which is busy
-abbrev said : (Y : Yard) (m : Mem) (x limit now : ℕ) → Outcome
-said Y m x limit now = tell (judge (m .items) limit now (place-at Y m (hit Y m x)))
+abbrev said : (Y : Shape) (m : Mem) (x limit now : ℕ) → Outcome
+said Y m x limit now = tell (judge (m .items) limit now (place-at m (hit Y m x)))
 
-pub zero-read : (Y : Yard) (m : Mem) (x limit now : ℕ) → x ≡ 0 → reading Y m x limit now ≡ refused 2
+pub zero-read : (Y : Shape) (m : Mem) (x limit now : ℕ) → x ≡ 0 → reading Y m x limit now ≡ refused 2
 unfolding reading
-zero-read Y m x limit now z = ap (λ b. choose b (tell (refused 2)) (choose (bad-time limit now) (tell (refused 3)) (choose (busy Y m x) (tell (refused 8)) (choose (hurt Y m x) (tell (refused 4)) (said Y m x limit now)))) .answer) (eq-eqb x 0 z)
+zero-read Y m x limit now z = ap (λ b. choose b (tell (refused 2)) (choose (bad-time limit now) (tell (refused 3)) (choose (busy Y m x) (tell (refused 8)) (choose (home-damage Y m x) (tell (refused 4)) (said Y m x limit now)))) .answer) (eq-eqb x 0 z)
 
-busy-read : (Y : Yard) (m m′ : Mem) (x limit now : ℕ) → getD (m′ .counters) (counter-of Y x) 0 % 2 ≡ 1
+busy-read : (Y : Shape) (m m′ : Mem) (x limit now : ℕ) → getD (m′ .counters) (counter-of Y x) 0 % 2 ≡ 1
     → (reading Y m′ x limit now ≡ refused 8) ⊎ (reading Y m′ x limit now ≡ reading Y m x limit now)
 unfolding reading
 busy-read Y m m′ x limit now odd =
@@ -74,12 +73,12 @@ busy-read Y m m′ x limit now odd =
     (λ e. inr (rw (ne-eqb x 0 nz))) λ e. inl (rw (ne-eqb x 0 nz, eq-eqb (getD (m′ .counters) (counter-of Y x) 0 % 2) 1 odd))
 
 -- a block stands between two additions to its animal's counter, or is one store to a recent word
-pub data Kind (Y : Yard) (m : Mem) : Block → Type 0 where
-  framed : {b : Block} (inner : List Store) → stores-of b ≡ counted (counter-of Y (subject m b)) inner → Quiet inner → Kind Y m b
-  single : (p v : ℕ) → Kind Y m (recency p v)
+pub data Framing (Y : Shape) (m : Mem) : Block → Type 0 where
+  framed : {b : Block} (inner : List Store) → stores-of b ≡ counted (counter-of Y (subject m b)) inner → Quiet inner → Framing Y m b
+  single : (p v : ℕ) → Framing Y m (recency p v)
 
 -- two memories with the same view of x
-module _ (Y : Yard) (m m′ : Mem) (x : ℕ) (o : Option Entry) (r : View Y x o m) (r′ : View Y x o m′) (even : getD (m .counters) (counter-of Y x) 0 % 2 ≡ 0) (limit now : ℕ) where
+module _ (Y : Shape) (m m′ : Mem) (x : ℕ) (o : Option Entry) (r : View Y x o m) (r′ : View Y x o m′) (even : getD (m .counters) (counter-of Y x) 0 % 2 ≡ 0) (limit now : ℕ) where
   even-view : getD (m′ .counters) (counter-of Y x) 0 % 2 ≡ 0 → reading Y m′ x limit now ≡ reading Y m x limit now
   unfolding reading
   even-view even′ =
@@ -92,7 +91,7 @@ module _ (Y : Yard) (m m′ : Mem) (x : ℕ) (o : Option Entry) (r : View Y x o 
       dite (ℕ-discrete (getD (m′ .counters) (counter-of Y x) 0 % 2) 0) (λ e. inr (even-view e))
       λ ne. busy-read Y m m′ x limit now (omega arith)
 
-module _ (Y : Yard) (L : Lawful Y) (m : Mem) (g : WellFormed Y m) where
+module _ (Y : Shape) (L : Lawful Y) (m : Mem) (g : WellFormed Y m) where
   -- a block leaves every other animal's read alone, at every cut
   others : (b : Block) → Fits Y m b → (k x limit now : ℕ) → x ≢ subject m b
       → (reading Y (apply-all (take k (stores-of b)) m) x limit now ≡ refused 8) ⊎ (reading Y (apply-all (take k (stores-of b)) m) x limit now ≡ reading Y m x limit now)
@@ -124,22 +123,22 @@ module _ (Y : Yard) (L : Lawful Y) (m : Mem) (g : WellFormed Y m) where
   counter-home {a} e (inl f) = rw (e, f)
   counter-home {a} e (inr f) = rw (e, f, L .other-twice (Y .tag-of a) (Y .first-of a)) (ap (λ n. n % Y .counters) (min-comm (Y .layout .other (Y .tag-of a) (Y .first-of a)) (Y .first-of a)))
 
-  pub kind : (b : Block) → Fits Y m b → Kind Y m b
-  kind (move c f t y) h =
+  pub framing : (b : Block) → Fits Y m b → Framing Y m b
+  framing (move c f t y) h =
       let r = g .points f (h .0 .held) in
       let same : place y ≡ place (word m f) = ap place (h .1) in
       framed {b = move c f t y} (slot-to t y ∷ slot-to f 0 ∷ [])
       (ap (λ c. counted c (slot-to t y ∷ slot-to f 0 ∷ [])) (h .2 ∙ counter-home (rw same (r .tagged)) (rw same (r .home)))) tt
-  kind (enter c p i y a v s) h =
+  framing (enter c p i y a v s) h =
       let inner : List Store = item-to (4 * p) a ∷ item-to (4 * p + 1) v ∷ item-to (4 * p + 2) s ∷ item-to (4 * p + 3) 1 ∷ slot-to i y ∷ [] in
       framed {b = enter c p i y a v s} inner (ap (λ c. counted c inner) (h .count)) tt
-  kind (update c p v s) h =
+  framing (update c p v s) h =
       let inner : List Store = item-to (4 * p + 1) v ∷ item-to (4 * p + 2) s ∷ item-to (4 * p + 3) 1 ∷ [] in
       framed {b = update c p v s} inner (ap (λ c. counted c inner) (h .2)) tt
-  kind (remove c i p) h =
+  framing (remove c i p) h =
       let inner : List Store = slot-to i 0 ∷ item-to (4 * p) 0 ∷ item-to (4 * p + 1) 0 ∷ item-to (4 * p + 2) 0 ∷ item-to (4 * p + 3) 0 ∷ [] in
       framed {b = remove c i p} inner (ap (λ c. counted c inner) (h .1)) tt
-  kind (recency p v) h = single p v
+  framing (recency p v) h = single p v
 
   pub silent-read : (b : Block) → Fits Y m b → Silent b → (x limit now : ℕ) → reading Y (whole b m) x limit now ≡ reading Y m x limit now
   silent-read (move c f t y) h s x limit now =
@@ -158,9 +157,9 @@ module _ (Y : Yard) (L : Lawful Y) (m : Mem) (g : WellFormed Y m) where
   cut-recent p v h (suc zero) x limit now = inr (inl (silent-read (recency p v) h tt x limit now))
   cut-recent p v h (suc (suc k)) x limit now = inr (inl (silent-read (recency p v) h tt x limit now))
 
-  cut-kind : {b : Block} → Fits Y m b → Kind Y m b → (k : ℕ) → Seen Y (subject m b) m (whole b m) (apply-all (take k (stores-of b)) m)
-  cut-kind h (single p v) k x limit now = cut-recent p v h k x limit now
-  cut-kind {b} h (framed inner e quiet) k x limit now =
+  cut-framed : {b : Block} → Fits Y m b → Framing Y m b → (k : ℕ) → Seen Y (subject m b) m (whole b m) (apply-all (take k (stores-of b)) m)
+  cut-framed h (single p v) k x limit now = cut-recent p v h k x limit now
+  cut-framed {b} h (framed inner e quiet) k x limit now =
       dite (ℕ-discrete x (subject m b))
       (λ s. subst (λ ss. (reading Y (apply-all (take k ss) m) x limit now ≡ refused 8) ⊎ ((reading Y (apply-all (take k ss) m) x limit now ≡ reading Y m x limit now)
       ⊎ ((x ≡ subject m b) × (reading Y (apply-all (take k ss) m) x limit now ≡ reading Y (apply-all ss m) x limit now))))
@@ -168,15 +167,15 @@ module _ (Y : Yard) (L : Lawful Y) (m : Mem) (g : WellFormed Y m) where
       λ ne. ⊎-elim inl (λ s. inr (inl s)) (others b h k x limit now ne)
 
   pub cut-block : (b : Block) → Fits Y m b → (k : ℕ) → Seen Y (subject m b) m (whole b m) (apply-all (take k (stores-of b)) m)
-  cut-block b h = cut-kind h (kind b h)
+  cut-block b h = cut-framed h (framing b h)
 
 -- the blocks of a call about animal a: each has its condition when its turn comes, and all but the last change no answer
-pub data Tale (Y : Yard) (a : ℕ) : Mem → List Block → Type 0 where
+pub data Tale (Y : Shape) (a : ℕ) : Mem → List Block → Type 0 where
   done : {m : Mem} → Tale Y a m []
   quiet : {m : Mem} {b : Block} {bs : List Block} → Fits Y m b → Silent b → Tale Y a (whole b m) bs → Tale Y a m (b ∷ bs)
   last : {m : Mem} {b : Block} → Fits Y m b → subject m b ≡ a → Tale Y a m (b ∷ [])
 
-module _ (Y : Yard) (L : Lawful Y) (a : ℕ) where
+module _ (Y : Shape) (L : Lawful Y) (a : ℕ) where
   pub keep-tale : {m : Mem} {bs : List Block} → WellFormed Y m → Tale Y a m bs → WellFormed Y (wholes bs m)
   keep-tale g done = g
   keep-tale {m} g (quiet {b = b} f s t) = keep-tale (keep Y L m g b f) t

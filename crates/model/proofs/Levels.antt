@@ -7,7 +7,7 @@ use mathlib.Core.Logic.{⊎-elim, dite}
 use mathlib.Core.List.{List, [], _∷_, Memᴰ·append-left, Memᴰ·append-right, List·Memᴰ as Mem, List·Memᴰ·head as head, List·Memᴰ·tail as tail}
 use mathlib.Core.List.{List·Memᴰ·not-nil as not-nil, List·Memᴰ·append-cases as append-cases}
 use lib.ListN.{length}
-use Rattle.model.specs.Yard.{Layout}
+use Rattle.model.specs.Shape.{Layout}
 use Rattle.model.specs.Moves.{Free, word-in}
 use Rattle.model.specs.Visits.{hop, hops, next-level, visits}
 use Rattle.model.proofs.Reach.{Reach, onward, reached}
@@ -48,11 +48,6 @@ module _ (S : Layout) (T : List ℕ) where
       let r = level-walk k (next-level S T bs) q in
       let n = next-mem bs (r .1) in
       (n .0, n .1, n .2 ∷ r .2, ap suc (r .3), (n .3, r .4), ap (λ x. walk S T x (r .2)) (sym (n .4)) ∙ r .5)
-
-  pub walk-level : {b : ℕ} (p bs : List ℕ) → Mem b bs → Slots S p → Mem (walk S T b p) (level S T (length p) bs)
-  unfolding level
-  walk-level [] bs q h = q
-  walk-level (s ∷ p) bs q h = walk-level p (next-level S T bs) (mem-next bs q (h .0)) (h .1)
 
   -- the visit list is the levels up to d
   pub level-visits : {v : ℕ} (k d : ℕ) (bs : List ℕ) → k ≤ d → Mem v (level S T k bs) → Mem v (visits S T d bs)

@@ -1,36 +1,46 @@
+-- Where a definition says another thing than document 01, it shows here first
+pub mod AsWritten
+-- Footing: lists, the hash, what a shape's numbers are like, calm memory, the row's words, lengths and stores
+pub mod ListLaws
 pub mod Hash
-pub mod Lawful
+pub mod ShapeLaws
+pub mod Calm
+pub mod RowWords
+pub mod Trace
+pub mod Lent
+pub mod Paper
+pub mod Said
+-- Pillar ROOM: legal moves and the visit list; why the search's moves are the fewest
 pub mod Reach
 pub mod Paths
 pub mod Levels
-pub mod Plan
+pub mod PathMoves
 pub mod Room
-pub mod Places
+pub mod Positions
 pub mod Search
-pub mod Kept
-pub mod Laws
-pub mod Calm
-pub mod Keep
+-- Pillar WORDS: a block keeps a table well-formed; a read finds what a walk over the places finds
+pub mod MovedWords
+pub mod KeepBlocks
+pub mod ReadWalk
+-- Pillar READERS: what a reader relies on, and what it sees at a cut
 pub mod View
-pub mod Agree
 pub mod Spare
 pub mod Cut
+-- Pillar HAND: the two ways of CLOCK are one, and there is always a victim
 pub mod Clock
-pub mod Apart
+pub mod NoTen
+-- One call on a well-formed table, then any run of calls
 pub mod Step
 pub mod StepSet
 pub mod StepEvict
 pub mod Steps
 pub mod Runs
-pub mod Lent
-pub mod Searched
-pub mod Trace
-pub mod Demand1
+pub mod RoomOnWellFormed
 pub mod OnWellFormed
-pub mod Linked
+-- The roof: the demands, and every statement that is owed
+pub mod Demand1
 pub mod Demands
 pub mod Never
-pub mod Paper
-pub mod Said
-pub mod Ten
-pub mod Examples
+pub mod FreshAnywhere
+pub mod Linked
+pub mod Theorems

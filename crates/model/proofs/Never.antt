@@ -1,6 +1,6 @@
 -- No entry is ever lost in our table: at every cut each held animal, but the one that is taken away, stands in a home slot.
 -- Assumes nothing.
-use Prim.Native.Nat.{ℕ, _*_, _<_, suc, _-_, _%_, zero}
+use Prim.Native.Nat.{ℕ, _*_, suc, _-_, _%_, zero}
 use native.Mathlib.Omega.{arith}
 use native.Mathlib.Decide.{ℕ-discrete, decLe}
 use mathlib.Core.Path.{_≡_, refl, sym, ap, _∙_, subst}
@@ -15,32 +15,29 @@ use borrow.Author.Tests.{eqb-true}
 use lib.Ieee.{size}
 use Rattle.model.specs.Choice.{choose, range, there}
 use Rattle.model.specs.Memory.{Mem, animal, place, tag, word}
-use Rattle.model.specs.Yard.{Yard, homes, sizes}
-use Rattle.model.specs.Stores.{Block, Store, apply, apply-all, bump, enter, item-to, move, recency, remove, slot-to, stores}
-use Rattle.model.specs.Stores.{stores-of, update, whole}
+use Rattle.model.specs.Shape.{Shape, homes, four, Ways, eight}
+use Rattle.model.specs.Stores.{Block, Store, apply, apply-all, bump, enter, item-to, move, recency, remove, slot-to, stores, stores-of, update, whole}
 use Rattle.model.specs.Moves.{Move, moved}
-use Rattle.model.specs.Answers.{Call, HasCut, about, delete, evict, find, gone, read, serve, set-animal, write-list}
-use Rattle.model.specs.Age.{stamp-of, standing}
-use Rattle.model.specs.Calls.{Outcome, busy, call, enter-at, enter-block, final-slot, held, hit, hits, hurt, move-blocks, planned}
-use Rattle.model.specs.Calls.{refuse, set-at, stopped, vacant-place, visited, wounded}
+use Rattle.model.specs.Age.{bad-grant}
+use Rattle.model.specs.Calls.{Outcome, busy, call, enter-at, enter-block, final-slot, held, hit, hits, home-damage, move-blocks, moves-found}
+use Rattle.model.specs.Calls.{refuse, set-at, stopped, vacant-place, visited, search-damage}
 use Rattle.model.specs.Row.{walk-to}
 use Rattle.model.specs.WellFormed.{WellFormed}
-use Rattle.model.specs.Demands.{NeverLost, Stands, table, yard-in}
+use Rattle.model.specs.Demands.{NeverLost, Stands, table, shape-in}
 use Rattle.model.specs.Ours.{gate, ours}
-use Rattle.model.proofs.Lawful.{Lawful}
-use Rattle.model.proofs.Laws.{First, all-append, both-yes, first-is, found, missing, take-past, true-false, walk-is}
-use Rattle.model.proofs.Keep.{Fits, keep}
+use Rattle.model.specs.declared.Grant.{Grant}
+use Rattle.model.proofs.ShapeLaws.{Lawful}
+use Rattle.model.proofs.ListLaws.{First, all-append, both-yes, first-is, found, missing, take-past, true-false, walk-is}
+use Rattle.model.proofs.KeepBlocks.{Fits, keep}
 use Rattle.model.proofs.View.{AtPlace, Entry, View, view-stores}
-use Rattle.model.proofs.Agree.{hit-at}
+use Rattle.model.proofs.ReadWalk.{hit-at}
 use Rattle.model.proofs.Spare.{spares, subject, view}
 use Rattle.model.proofs.Cut.{Silent, Tale, done, last, quiet}
-use Rattle.model.proofs.Step.{still}
 use Rattle.model.proofs.StepEvict.{cleared-animal}
 use Rattle.model.proofs.Steps.{step}
-use Rattle.model.proofs.Lent.{Sizes, four-sizes}
 use Rattle.model.proofs.OnWellFormed.{answer-is, cut-is, lawY}
 use Rattle.model.proofs.Demands.{same-story, well-story}
-use mathlib.Core.List.{List·Memᴰ as In}
+use Rattle.model.specs.Calling.{set-animal, Call, about, HasCut, gone, read, serve, find, delete, evict, write-list}
 
 -- no block takes an entry away
 abbrev Keeps : List Block → Type 0
@@ -61,7 +58,7 @@ abbrev AllHarmless : List Store → Type 0
 AllHarmless [] = Unit {0}
 AllHarmless (s ∷ ss) = Harmless s × AllHarmless ss
 
-module _ (Y : Yard) (x : ℕ) where
+module _ (Y : Shape) (x : ℕ) where
   stands-harmless : (s : Store) (m : Mem) → Harmless s → Stands Y m x → Stands Y (apply s m) x
   unfolding hits
   stands-harmless (bump c) m h st = st
@@ -93,7 +90,7 @@ module _ (Y : Yard) (x : ℕ) where
   unfolding hit
   not-standing m e st = nowhere m (first-is (hits Y m x) (homes Y x)) e st
 
-module _ (Y : Yard) (L : Lawful Y) (x : ℕ) (nz : x ≢ 0) where
+module _ (Y : Shape) (L : Lawful Y) (x : ℕ) (nz : x ≢ 0) where
   good-stands : (m : Mem) → WellFormed Y m → (p : ℕ) → animal (m .items) p ≡ x → Stands Y m x
   good-stands m g p e =
       let s = g .pointed p (rw e nz) in
@@ -168,7 +165,7 @@ module _ (Y : Yard) (L : Lawful Y) (x : ℕ) (nz : x ≢ 0) where
 record Keeping (o : Outcome) : Type 0 where
   keeps : Keeps (o .blocks)
 
-module _ (Y : Yard) (m : Mem) where
+module _ (Y : Shape) (m : Mem) where
   pass : (b : Bool) {o o′ : Outcome} → Keeping o → Keeping o′ → Keeping (choose b o o′)
   pass true k k′ = k
   pass false k k′ = k′
@@ -176,30 +173,32 @@ module _ (Y : Yard) (m : Mem) where
   refusal : (n : ℕ) → Keeping (refuse n)
   refusal n = record { keeps = tt }
 
-  moves-keep : (T : List ℕ) (ms : List Move) (x v s p i : ℕ) → Keeps (move-blocks Y T ms ++ (enter-block Y x v s p i ∷ []))
-  moves-keep T [] x v s p i = tt
-  moves-keep T (u ∷ ms) x v s p i = moves-keep (moved T u) ms x v s p i
+  moves-keep : (T : List ℕ) (ms : List Move) (q : Grant) (p i : ℕ) → Keeps (move-blocks Y T ms ++ (enter-block Y q p i ∷ []))
+  moves-keep T [] q p i = tt
+  moves-keep T (u ∷ ms) q p i = moves-keep (moved T u) ms q p i
 
-  new-keeps : (x v s : ℕ) (o : Option ℕ) → Keeping (enter-at Y m x v s o)
-  new-keeps x v s none = refusal 5
-  new-keeps x v s (some p) =
-      pass (wounded Y m x) (refusal 4) (pass (eqb (stopped Y m x) (length (visited Y m x))) (refusal 6)
-      (record { keeps = moves-keep (m .slots) (planned Y m x) x v s p (final-slot Y m x) }))
+  new-keeps : (q : Grant) (o : Option ℕ) → Keeping (enter-at Y m q o)
+  new-keeps q none = refusal 5
+  new-keeps q (some p) =
+      let x = q .animal in
+      pass (search-damage Y m x) (refusal 4) (pass (eqb (stopped Y m x) (length (visited Y m x))) (refusal 6)
+      (record { keeps = moves-keep (m .slots) (moves-found Y m x) q p (final-slot Y m x) }))
 
-  set-at-keeps : (x v s : ℕ) (o : Option ℕ) → Keeping (set-at Y m x v s o)
-  set-at-keeps x v s none = new-keeps x v s (vacant-place (Y .places) (m .items))
-  set-at-keeps x v s (some p) = record { keeps = tt }
+  set-at-keeps : (q : Grant) (o : Option ℕ) → Keeping (set-at Y m q o)
+  set-at-keeps q none = new-keeps q (vacant-place (Y .places) (m .items))
+  set-at-keeps q (some p) = record { keeps = tt }
 
-  set-keeps : (x v now : ℕ) (s : Bool) → Keeping (call Y m (set-animal x v now s))
-  set-keeps x v now s =
-      pass (eqb x 0) (refusal 2) (pass (eqb now standing) (refusal 3)
-      (pass (busy Y m x) (refusal 8) (pass (hurt Y m x) (refusal 4) (set-at-keeps x v (stamp-of now s) (held Y m x)))))
+  set-keeps : (q : Grant) → Keeping (call Y m (set-animal q))
+  set-keeps q =
+      let x = q .animal in
+      pass (eqb x 0) (refusal 2) (pass (bad-grant q) (refusal 3)
+      (pass (busy Y m x) (refusal 8) (pass (home-damage Y m x) (refusal 4) (set-at-keeps q (held Y m x)))))
 
   kept : (c : Call) → HasCut c → (x : ℕ) → x ≢ gone c (call Y m c .answer) → Keeps (call Y m c .blocks) ⊎ (x ≢ about c (call Y m c .answer))
   kept (read a limit now) h x ne = absurd h
   kept (serve a limit now) h x ne = absurd h
   kept (find a) h x ne = absurd h
-  kept (set-animal a v now s) h x ne = inl (set-keeps a v now s .keeps)
+  kept (set-animal q) h x ne = inl (set-keeps q .keeps)
   kept (delete a) h x ne = inr ne
   kept (evict hand) h x ne = inr ne
   kept (write-list size) h x ne = absurd h
@@ -212,18 +211,21 @@ walk-sound M l x p e = go (walk-is l x M 0) e
     go (found {i = i} q t) e = let f : i ≡ p = cc in rw (← f) (eqb-true (animal l i) x t)
     go (missing h) e = let z : _≡_ {A = ℕ} 0 1 = cc in absurd (omega arith)
 
-module _ (w d : ℕ) (ns : List ℕ) (pos : 0 < w) (hs : Sizes ns) where
-  pub our-never : NeverLost w d ns (ours w d ns)
+module _ (W : Ways) where
+  pub our-never : NeverLost W (ours W)
   our-never s c t h x p nz e ne k =
-      let m : Mem = table w d ns (ours w d ns) s in
-      let Z : Yard = yard-in w d ns s in
-      let g = well-story w d ns pos hs s in
-      let L = lawY w d ns pos hs (s .memory) (s .right) in
-      subst (λ m′. Stands Z m′ x) (sym (cut-is w d ns pos hs (s .memory) (s .right) m g c k))
+      let m : Mem = table W (ours W) s in
+      let Z : Shape = shape-in W s in
+      let g = well-story W s in
+      let L = lawY W (s .memory) (s .right) in
+      subst (λ m′. Stands Z m′ x) (sym (cut-is W (s .memory) (s .right) m g c k))
       (never-tale Z L x nz (about c (call Z m c .answer)) g p
-      (walk-sound (Z .places) (m .items) x p (ap (λ l. walk-to l x (Z .places) 0) (same-story w d ns pos hs s) ∙ e))
-      (kept Z m c h x (λ f. ne (f ∙ ap (gone c) (sym (answer-is w d ns pos hs (s .memory) (s .right) m g c)))))
+      (walk-sound (Z .places) (m .items) x p (ap (λ l. walk-to l x (Z .places) 0) (same-story W s) ∙ e))
+      (kept Z m c h x (λ f. ne (f ∙ ap (gone c) (sym (answer-is W (s .memory) (s .right) m g c)))))
       (step Z L m g c t .tale) k)
 
-pub gate-never : NeverLost 4 4 sizes gate
-gate-never = our-never 4 4 sizes (omega arith) four-sizes
+pub gate-never : NeverLost four gate
+gate-never = our-never four
+
+pub eight-never : NeverLost eight (ours eight)
+eight-never = our-never eight

@@ -3,8 +3,8 @@ use Prim.Native.Nat.{ℕ, suc, zero}
 use mathlib.Core.Path.{_≡_, refl, sym, ap, _∙_}
 use mathlib.Core.List.{List, [], _∷_}
 use lib.ListN.{getD, drop}
-use Rattle.model.specs.Answers.{Answer, Paper, absent, ahead, at-place, deleted, evicted, fresh, listed, old, paper, refused, started}
-use Rattle.model.specs.Answers.{stored}
+use Rattle.model.specs.Answers.{Answer, Paper, absent, ahead, at-place, deleted, evicted, fresh, listed, old, paper, refused, started, stored}
+use mathlib.Core.Logic.{_≢_}
 
 -- the answer is read back off them
 back-from : ℕ → List ℕ → Answer
@@ -42,3 +42,17 @@ read-back (at-place p) = refl
 
 pub paper-injective : (a b : Answer) → paper a ≡ paper b → a ≡ b
 paper-injective a b e = sym (read-back a) ∙ ap back e ∙ read-back b
+
+-- only a refusal has a number
+pub numbered : (a : Answer) → paper a .number ≢ 0 → a ≡ refused (paper a .number)
+numbered (refused n) h = refl
+numbered absent h = absurd (h refl)
+numbered (fresh v a) h = absurd (h refl)
+numbered (old a) h = absurd (h refl)
+numbered ahead h = absurd (h refl)
+numbered (stored v n) h = absurd (h refl)
+numbered deleted h = absurd (h refl)
+numbered (evicted x n k) h = absurd (h refl)
+numbered started h = absurd (h refl)
+numbered (listed n bs) h = absurd (h refl)
+numbered (at-place p) h = absurd (h refl)

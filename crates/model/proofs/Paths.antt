@@ -5,7 +5,7 @@ use mathlib.Core.Logic.{_≢_}
 use mathlib.Core.List.{List, [], _∷_, _++_, List·Memᴰ as Mem}
 use lib.ListN.{length, getD}
 use Rattle.model.specs.Choice.{first}
-use Rattle.model.specs.Yard.{Layout}
+use Rattle.model.specs.Shape.{Layout}
 use Rattle.model.specs.Moves.{Free, Move, Run, moved-by, word-in}
 use Rattle.model.specs.Visits.{hop, lands, next-level, visits}
 
@@ -43,10 +43,10 @@ module _ (S : Layout) where
   walk T b (s ∷ p) = walk T (hop S T b s) p
 
   -- the moves along a path to slot r of its last bucket: the far end first, each into the slot just freed
-  abbrev pub plan : List ℕ → ℕ → List ℕ → ℕ → List Move
-  plan T b [] r = []
-  plan T b (s ∷ p) r =
-      plan T (hop S T b s) p r
+  abbrev pub path-moves : List ℕ → ℕ → List ℕ → ℕ → List Move
+  path-moves T b [] r = []
+  path-moves T b (s ∷ p) r =
+      path-moves T (hop S T b s) p r
       ++ (record { from = b * S .ways + s; to = hop S T b s * S .ways + into p r } ∷ [])
 
   module _ (T : List ℕ) (bs : List ℕ) where
@@ -69,10 +69,10 @@ module _ (S : Layout) where
     -- the path's buckets differ, the moves along it are legal one after the other and free a slot of the home, and no fewer moves do
     pub record Fewest (b : ℕ) (p : List ℕ) (r : ℕ) : Type 0 where
       pub different : Distinct (b ∷ stops T b p)
-      pub run : Run S T (plan T b p r)
-      pub count : length (plan T b p r) ≡ length p
+      pub run : Run S T (path-moves T b p r)
+      pub count : length (path-moves T b p r) ≡ length p
       pub slot : into p r < S .ways
-      pub freed : word-in S (moved-by T (plan T b p r)) b (into p r) ≡ 0
+      pub freed : word-in S (moved-by T (path-moves T b p r)) b (into p r) ≡ 0
       pub fewest : (ms : List Move) → Run S T ms → (c : ℕ) → Mem c bs → Free S (moved-by T ms) c → length p ≤ length ms
 
     -- the moves ms are legal one after the other, the slot i or, if there are moves, the source of the last is then free and in a

@@ -10,14 +10,10 @@ use lib.ListN.{length, getD, set, length-set, List·getD-eq-default}
 use lib.Seq.{getD-set-same, getD-set-other}
 use lib.Arith.{digits-div}
 use Rattle.model.specs.Memory.{tag}
-use Rattle.model.specs.Yard.{Layout}
+use Rattle.model.specs.Shape.{Layout}
 use Rattle.model.specs.Moves.{Free, Legal, Move, Run, moved, moved-by, word-in}
 use Rattle.model.specs.Visits.{hop}
-use Rattle.model.specs.Calls.{held}
-
--- a slot with an entry lies in the table
-pub inside-held : (T : List ℕ) (i : ℕ) → getD T i 0 ≢ 0 → i < length T
-inside-held T i h = dite (decLt i (length T)) (λ l. l) λ l. absurd (h (List·getD-eq-default T 0 (omega arith)))
+use Rattle.model.proofs.ListLaws.{inside-held}
 
 -- the bucket of a slot
 pub in-bucket : {w b s i : ℕ} → s < w → b * w + s ≡ i → b ≡ i / w

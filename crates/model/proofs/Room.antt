@@ -6,13 +6,12 @@ use mathlib.Core.Path.{_≡_}
 use mathlib.Core.Logic.{_↔_, dite}
 use mathlib.Core.List.{List, List·Memᴰ as Mem}
 use lib.ListN.{length}
-use Rattle.model.specs.Yard.{Layout}
+use Rattle.model.specs.Shape.{Layout}
 use Rattle.model.specs.Moves.{moved-by}
-use Rattle.model.specs.AnyTable.{slot}
 use Rattle.model.proofs.Reach.{Reach, run-reach}
-use Rattle.model.proofs.Paths.{AllFull, Fewest, Found, Shut, into, plan}
+use Rattle.model.proofs.Paths.{AllFull, Fewest, Found, Shut, into, path-moves}
 use Rattle.model.proofs.Levels.{level-visits, level-walk, reach-level, reach-walk, visits-level, walk-reach}
-use Rattle.model.proofs.Plan.{Done, Short, distinct, into-slot, length-plan, plan-done}
+use Rattle.model.proofs.PathMoves.{Done, Short, distinct, into-slot, length-path-moves, path-done}
 
 module _ (S : Layout) (T : List ℕ) (n : ℕ) (size : length T ≡ n * S .ways) (closed : (t b : ℕ) → b < n → S .other t b < n)
     (bs : List ℕ) (home-in : (b : ℕ) → Mem b bs → b < n) where
@@ -21,8 +20,8 @@ module _ (S : Layout) (T : List ℕ) (n : ℕ) (size : length T ≡ n * S .ways)
   none {d} shut (suc K) k h l b q x =
       let w = reach-walk S T x in
       let r = w .3 .0 in
-      let y = plan-done S T n size closed r (w .3 .1) b (w .0) (home-in b q) (w .2) (w .3 .2) (λ j lt. none shut K j (omega arith) (omega arith) b q) in
-      shut (plan S T b (w .0) r) (omega (arith, length-plan S T b (w .0) r)) (y .run) b q
+      let y = path-done S T n size closed r (w .3 .1) b (w .0) (home-in b q) (w .2) (w .3 .2) (λ j lt. none shut K j (omega arith) (omega arith) b q) in
+      shut (path-moves S T b (w .0) r) (omega (arith, length-path-moves S T b (w .0) r)) (y .run) b q
       (into (w .0) r, into-slot S (w .0) (w .3 .1) (w .2), y .freed)
 
   -- "no room" is right
@@ -43,7 +42,7 @@ module _ (S : Layout) (T : List ℕ) (n : ℕ) (size : length T ≡ n * S .ways)
       record {
         different = distinct S T b p (o .slots) (r, o .slot, o .free) (short b (o .home));
         run = y .run;
-        count = length-plan S T b p r;
+        count = length-path-moves S T b p r;
         slot = into-slot S p (o .slot) (o .slots);
         freed = y .freed;
         fewest = λ ms run c q f. dite (decLe (length p) (length ms)) (λ l. l)
@@ -53,5 +52,5 @@ module _ (S : Layout) (T : List ℕ) (n : ℕ) (size : length T ≡ n * S .ways)
       short : (c : ℕ) → Mem c bs → Short S T c p
       short c q j l x = let y = reach-level S T bs q x in o .first (y .0) (y .1) (omega arith) (y .3) (y .4)
 
-      y : Done S T n size closed r (o .slot) b p (moved-by T (plan S T b p r))
-      y = plan-done S T n size closed r (o .slot) b p (home-in b (o .home)) (o .slots) (o .free) (short b (o .home))
+      y : Done S T n size closed r (o .slot) b p (moved-by T (path-moves S T b p r))
+      y = path-done S T n size closed r (o .slot) b p (home-in b (o .home)) (o .slots) (o .free) (short b (o .home))

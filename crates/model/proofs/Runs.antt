@@ -7,31 +7,27 @@ use mathlib.Core.Logic.{_≢_, _⊎_, inl, inr, dite}
 use mathlib.Core.Bool.{Bool, true, false}
 use mathlib.Core.Option.{Option, none, some}
 use mathlib.Core.List.{List}
-use lib.ListN.{getD, List·getD-eq-default, replicate, length-replicate, getD-replicate}
+use lib.ListN.{length-replicate}
 use lib.Dec.{eqb}
 use borrow.Author.Tests.{lt-ltb, le-ltb, eq-eqb, ne-eqb, eqb-true, eqb-false}
 use Rattle.model.specs.Choice.{choose, range}
 use Rattle.model.specs.Memory.{Mem, animal, permission, stamp}
-use Rattle.model.specs.Yard.{Yard, fresh-memory}
-use Rattle.model.specs.Answers.{Answer, Call, Typed, about, absent, ahead, fresh, old, read, refused, serve}
-use Rattle.model.specs.Age.{bad-time, judge, standing}
-use Rattle.model.specs.Calls.{Outcome, after-call, asked, busy, call, cut-call, held, hurt, refuse, serve-at, tell}
-use Rattle.model.specs.Row.{row-bad-time, row-call, row-read, row-says, says-fresh, stay, walk-to}
+use Rattle.model.specs.Shape.{Shape, fresh-memory}
+use Rattle.model.specs.Answers.{Answer, absent, ahead, fresh, old, refused, says-fresh}
+use Rattle.model.specs.Age.{bad-time, judge, standing-mark}
+use Rattle.model.specs.Calls.{Outcome, after-call, asked, busy, call, cut-call, held, home-damage, refuse, serve-at, tell}
+use Rattle.model.specs.Row.{row-bad-time, row-call, row-read, row-says, stay, walk-to}
 use Rattle.model.specs.WellFormed.{WellFormed}
 use Rattle.model.specs.Demands.{Allowed}
-use Rattle.model.proofs.Lawful.{Lawful}
-use Rattle.model.proofs.Plan.{distinct}
-use Rattle.model.proofs.Laws.{First, found, in-range, missing, true-false, walk-is}
-use Rattle.model.proofs.Keep.{free-sound}
+use Rattle.model.proofs.ShapeLaws.{Lawful}
+use Rattle.model.proofs.ListLaws.{First, found, in-range, missing, true-false, walk-is, zeros}
+use Rattle.model.proofs.KeepBlocks.{free-sound}
 use Rattle.model.proofs.Cut.{Seen, cut-tale, keep-tale}
 use Rattle.model.proofs.Steps.{step}
+use Rattle.model.specs.Calling.{Call, serve, read, Typed, about}
 
 -- a fresh table is well-formed
-pub zeros : (n i : ℕ) → _≡_ {A = ℕ} (getD (replicate n 0) i 0) 0
-zeros n i =
-    dite (decLt i n) (λ h. getD-replicate n i 0 0 h) λ h. List·getD-eq-default (replicate n 0) 0 (rw length-replicate (omega arith))
-
-pub fresh-well : (Y : Yard) → WellFormed Y (fresh-memory Y)
+pub fresh-well : (Y : Shape) → WellFormed Y (fresh-memory Y)
 fresh-well Y =
     record {
       slots-long = length-replicate (Y .buckets * Y .layout .ways) 0;
@@ -46,7 +42,7 @@ fresh-well Y =
       bare = λ p z. (zeros (4 * Y .places) (4 * p + 1), zeros (4 * Y .places) (4 * p + 2), zeros (4 * Y .places) (4 * p + 3));
     }
 
-module _ (Y : Yard) (L : Lawful Y) (m : Mem) (g : WellFormed Y m) (c : Call) (h : Typed c) where
+module _ (Y : Shape) (L : Lawful Y) (m : Mem) (g : WellFormed Y m) (c : Call) (h : Typed c) where
   -- a finished call keeps it
   pub well-after : WellFormed Y (after-call Y m c)
   well-after = keep-tale Y L (about c (call Y m c .answer)) g (step Y L m g c h .tale)
@@ -56,18 +52,18 @@ module _ (Y : Yard) (L : Lawful Y) (m : Mem) (g : WellFormed Y m) (c : Call) (h 
   cut-seen k = cut-tale Y L (about c (call Y m c .answer)) g (step Y L m g c h .tale) k
 
 -- serve answers as read does, on every memory
-asked-answer : (Y : Yard) (m : Mem) (x : ℕ) (bad : Bool) (o o′ : Outcome) → o .answer ≡ o′ .answer
+asked-answer : (Y : Shape) (m : Mem) (x : ℕ) (bad : Bool) (o o′ : Outcome) → o .answer ≡ o′ .answer
     → asked Y m x bad o .answer ≡ asked Y m x bad o′ .answer
 asked-answer Y m x bad o o′ e =
-    pass (eqb x 0) (refuse 2) (choose bad (refuse 3) (choose (busy Y m x) (refuse 8) (choose (hurt Y m x) (refuse 4) o))) _
-    (pass bad (refuse 3) (choose (busy Y m x) (refuse 8) (choose (hurt Y m x) (refuse 4) o)) _
-    (pass (busy Y m x) (refuse 8) (choose (hurt Y m x) (refuse 4) o) _ (pass (hurt Y m x) (refuse 4) o o′ e)))
+    pass (eqb x 0) (refuse 2) (choose bad (refuse 3) (choose (busy Y m x) (refuse 8) (choose (home-damage Y m x) (refuse 4) o))) _
+    (pass bad (refuse 3) (choose (busy Y m x) (refuse 8) (choose (home-damage Y m x) (refuse 4) o)) _
+    (pass (busy Y m x) (refuse 8) (choose (home-damage Y m x) (refuse 4) o) _ (pass (home-damage Y m x) (refuse 4) o o′ e)))
   where
     pass : (b : Bool) (r o o′ : Outcome) → o .answer ≡ o′ .answer → choose b r o .answer ≡ choose b r o′ .answer
     pass true r o o′ e = refl
     pass false r o o′ e = e
 
-pub serve-reads : (Y : Yard) (m : Mem) (x limit now : ℕ) → call Y m (serve x limit now) .answer ≡ call Y m (read x limit now) .answer
+pub serve-reads : (Y : Shape) (m : Mem) (x limit now : ℕ) → call Y m (serve x limit now) .answer ≡ call Y m (read x limit now) .answer
 serve-reads Y m x limit now =
     asked-answer Y m x (bad-time limit now) (serve-at Y m limit now (held Y m x)) (tell (judge (m .items) limit now (held Y m x))) (same (held Y m x))
   where
@@ -77,25 +73,25 @@ serve-reads Y m x limit now =
 
 -- fresh is said only of a permission in time
 module _ (l : List ℕ) (x limit now v a : ℕ) where
-  abbrev InTime : ℕ → Type 0
-  InTime s = (s ≡ standing) ⊎ ((s ≤ now) × (now - s ≤ limit))
+  abbrev pub InTime : ℕ → Type 0
+  InTime s = (s ≡ standing-mark) ⊎ ((s ≤ now) × (now - s ≤ limit))
 
-  not-fresh : {A : Type 0} (r : Answer) → says-fresh r ≡ false → r ≡ fresh v a → A
+  pub not-fresh : {A : Type 0} (r : Answer) → says-fresh r ≡ false → r ≡ fresh v a → A
   not-fresh r f e = true-false (ap says-fresh e) f
 
   -- what the row says, where it says fresh
-  in-time : (u s : ℕ) → row-says limit now u s ≡ fresh v a → (u ≡ v) × InTime s
+  pub in-time : (u s : ℕ) → row-says limit now u s ≡ fresh v a → (u ≡ v) × InTime s
   unfolding row-says
   in-time u s e =
-      dite (ℕ-discrete s standing)
-      (λ q. let f : fresh u 0 ≡ fresh v a = rw (eq-eqb s standing q) at e in (cc, inl q))
+      dite (ℕ-discrete s standing-mark)
+      (λ q. let f : fresh u 0 ≡ fresh v a = rw (eq-eqb s standing-mark q) at e in (cc, inl q))
       λ nq. dite (decLt now s)
-      (λ q. not-fresh ahead refl (rw (ne-eqb s standing nq, lt-ltb now s q) at e))
+      (λ q. not-fresh ahead refl (rw (ne-eqb s standing-mark nq, lt-ltb now s q) at e))
       λ q. let le : s ≤ now = omega arith in
       dite (decLt limit (now - s))
-      (λ k. not-fresh (old (now - s)) refl (rw (ne-eqb s standing nq, le-ltb now s le, lt-ltb limit (now - s) k) at e))
+      (λ k. not-fresh (old (now - s)) refl (rw (ne-eqb s standing-mark nq, le-ltb now s le, lt-ltb limit (now - s) k) at e))
       λ k. let le′ : now - s ≤ limit = omega arith in
-      let f : fresh u (now - s) ≡ fresh v a = rw (ne-eqb s standing nq, le-ltb now s le, le-ltb limit (now - s) le′) at e in
+      let f : fresh u (now - s) ≡ fresh v a = rw (ne-eqb s standing-mark nq, le-ltb now s le, le-ltb limit (now - s) le′) at e in
       (cc, inr (le, le′))
 
   found-fresh : (M : ℕ) → x ≢ 0 → {o : Option ℕ} → First (λ p. eqb (animal l p) x) (range 0 M) o
@@ -108,7 +104,7 @@ module _ (l : List ℕ) (x limit now v a : ℕ) where
         record { real = nz; animal-is = eqb-true (animal l p) x t; permission-is = j .0; in-time = j .1 },
       )
 
-  pub row-fresh : (M : ℕ) → row-call M false l (read x limit now) .answer ≡ fresh v a → (p : ℕ) × (p < M) × Allowed l x limit now v p
+  pub row-fresh : (M : ℕ) → row-call M 0 l (read x limit now) .answer ≡ fresh v a → (p : ℕ) × (p < M) × Allowed l x limit now v p
   row-fresh M e =
       asks (eqb x 0) (row-bad-time M limit now) (eqb-false x 0) e
     where

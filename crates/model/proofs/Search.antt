@@ -5,16 +5,15 @@ use native.Mathlib.Omega.{arith}
 use native.Mathlib.Decide.{ℕ-discrete, decLt}
 use mathlib.Core.Path.{_≡_, refl, subst}
 use mathlib.Core.Logic.{_≢_, _↔_, _⊎_, inl, inr, ⊎-elim, dite}
-use mathlib.Core.List.{List, [], _∷_, List·Memᴰ as Mem, List·Memᴰ·head as head, List·Memᴰ·tail as tail}
+use mathlib.Core.List.{List, [], _∷_, List·Memᴰ as Mem, List·Memᴰ·head as head, List·Memᴰ·tail as tail, List·Memᴰ·not-nil as not-nil}
 use lib.ListN.{length, getD}
 use borrow.Author.Tests.{lt-ltb, le-ltb, eq-eqb, ne-eqb}
-use Rattle.model.specs.Yard.{Layout}
+use Rattle.model.specs.Shape.{Layout}
 use Rattle.model.specs.Moves.{Free, Move, Run, moved-by, word-in}
 use Rattle.model.specs.Visits.{climb, first-free, free-slot, lowest, search-moves, stop, stop-slot, visit-list}
 use Rattle.model.proofs.Paths.{Shortest, Shut}
 use Rattle.model.proofs.Room.{shut-iff}
-use Rattle.model.proofs.Places.{at-mem, mem-at, shortest}
-use mathlib.Core.List.{List·Memᴰ·not-nil as not-nil}
+use Rattle.model.proofs.Positions.{at-mem, mem-at, shortest}
 
 module _ (S : Layout) (T : List ℕ) where
   -- x is the lowest free slot of b from s on, or e if none is below e

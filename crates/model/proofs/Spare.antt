@@ -8,14 +8,14 @@ use lib.Dec.{eqb}
 use borrow.Author.Tests.{eq-eqb, eqb-true}
 use Rattle.model.specs.Choice.{range}
 use Rattle.model.specs.Memory.{Mem, animal, permission, place, stamp, tag, word}
-use Rattle.model.specs.Yard.{Yard}
+use Rattle.model.specs.Shape.{Shape}
 use Rattle.model.specs.Stores.{Block, enter, move, recency, remove, stores-of, update}
 use Rattle.model.specs.WellFormed.{Right, WellFormed}
-use Rattle.model.proofs.Lawful.{Lawful}
-use Rattle.model.proofs.Laws.{First, first-is, found, missing, range-in, true-false}
-use Rattle.model.proofs.Keep.{Fits, entry-sound, free-sound, live-in}
+use Rattle.model.proofs.ShapeLaws.{Lawful, tagged-word}
+use Rattle.model.proofs.ListLaws.{First, first-is, found, missing, range-in, true-false}
+use Rattle.model.proofs.KeepBlocks.{Fits, entry-sound, free-sound, live-in}
 use Rattle.model.proofs.View.{AllSpare, Entry, OffItem, OffSlot, View}
-use Rattle.model.proofs.Agree.{home-in}
+use Rattle.model.proofs.ReadWalk.{home-in}
 
 -- the animal that a block is about
 abbrev pub subject : Mem → Block → ℕ
@@ -25,7 +25,7 @@ subject m (update c p v s) = animal (m .items) p
 subject m (remove c i p) = animal (m .items) p
 subject m (recency p v) = animal (m .items) p
 
-module _ (Y : Yard) (L : Lawful Y) (m : Mem) (g : WellFormed Y m) (x : ℕ) (nz : x ≢ 0) where
+module _ (Y : Shape) (L : Lawful Y) (m : Mem) (g : WellFormed Y m) (x : ℕ) (nz : x ≢ 0) where
   view-of : {o : Option ℕ} → First (λ p. eqb (animal (m .items) p) x) (range 0 (Y .places)) o → (e : Option Entry) × View Y x e m
   view-of (missing h) = (
     none,
@@ -51,15 +51,11 @@ module _ (Y : Yard) (L : Lawful Y) (m : Mem) (g : WellFormed Y m) (x : ℕ) (nz 
   pub view : (e : Option Entry) × View Y x e m
   view = view-of (first-is (λ p. eqb (animal (m .items) p) x) (range 0 (Y .places)))
 
-  tagged-word : (y : ℕ) → tag y ≡ Y .tag-of x → y ≢ 0
-  unfolding tag
-  tagged-word y e z = omega (arith, L .tag-low x)
-
   -- slots and item words that are not those of x
   off-slot : (o : Option Entry) → View Y x o m → (i : ℕ) → (word m i ≡ 0) ⊎ (animal (m .items) (place (word m i)) ≢ x) → OffSlot Y x i o
   off-slot none r i h = tt
   off-slot (some e) r i h =
-      λ f. ⊎-elim (tagged-word (word m i) (rw f (r .stands .tagged))) (λ k. k (rw (f, r .stands .points) (r .stands .holds))) h
+      λ f. ⊎-elim (tagged-word L (word m i) x (rw f (r .stands .tagged))) (λ k. k (rw (f, r .stands .points) (r .stands .holds))) h
 
   off-item : (o : Option Entry) → View Y x o m → (p k : ℕ) → k / 4 ≡ p → animal (m .items) p ≢ x → OffItem Y x k o
   off-item none r p k h ne = tt

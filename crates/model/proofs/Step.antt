@@ -11,28 +11,28 @@ use lib.Dec.{eqb, ltb}
 use borrow.Author.Tests.{eqb-true, eqb-false}
 use Rattle.model.specs.Choice.{choose, range}
 use Rattle.model.specs.Memory.{Mem, animal, permission, place, stamp, tag, word}
-use Rattle.model.specs.Yard.{Yard, counter-of, homes}
+use Rattle.model.specs.Shape.{Shape, counter-of, homes}
 use Rattle.model.specs.Stores.{recency, remove, wholes}
-use Rattle.model.specs.Answers.{Answer, absent, ahead, at-place, fresh, listed, old, refused, write-list}
+use Rattle.model.specs.Answers.{Answer, absent, ahead, at-place, fresh, listed, old, refused}
 use Rattle.model.specs.Age.{age, is-fresh, judge, verdict}
 use Rattle.model.specs.Listing.{listing, live-count, records}
 use Rattle.model.specs.Calls.{Outcome, asked, delete-at, find-at, held, hits, place-at, serve-at, tell}
-use Rattle.model.specs.Row.{Row, no-room, note, plain, row-asked, row-call, row-count, row-delete, row-find, row-list, row-read}
-use Rattle.model.specs.Row.{row-serve, stay, walk-to}
+use Rattle.model.specs.Row.{Row, note, plain, row-asked, row-call, row-count, row-delete, row-find, row-list, row-read, beyond, row-serve, stay, walk-to}
 use Rattle.model.specs.WellFormed.{WellFormed}
-use Rattle.model.proofs.Lawful.{Lawful}
-use Rattle.model.proofs.Laws.{First, bool, both-is, found, missing, walk-is}
+use Rattle.model.proofs.ShapeLaws.{Lawful, tagged-word}
+use Rattle.model.proofs.ListLaws.{First, bool, both-is, found, missing, walk-is}
 use Rattle.model.proofs.Calm.{calm, quick}
-use Rattle.model.proofs.Keep.{Fits}
-use Rattle.model.proofs.Agree.{held-walk, hit-number}
+use Rattle.model.proofs.KeepBlocks.{Fits}
+use Rattle.model.proofs.ReadWalk.{held-walk, hit-number}
 use Rattle.model.proofs.Cut.{Tale, done, last, quiet}
-use Rattle.model.proofs.Apart.{count-is, fresh-is, records-are, says-is}
+use Rattle.model.proofs.RowWords.{count-is, fresh-is, records-are, says-is}
+use Rattle.model.specs.Calling.{write-list}
 
 -- the outcome o of a call about animal `who`, and the row's outcome r, where the row is told whether the table had no room
-pub record Step (Y : Yard) (who : Answer → ℕ) (m : Mem) (o : Outcome) (r : Bool → Row) : Type 0 where
+pub record Step (Y : Shape) (who : Answer → ℕ) (m : Mem) (o : Outcome) (r : ℕ → Row) : Type 0 where
   pub tale : Tale Y (who (o .answer)) m (o .blocks)
-  pub answer : plain (o .answer) ≡ r (no-room (o .answer)) .answer
-  pub items : wholes (o .blocks) m .items ≡ r (no-room (o .answer)) .words
+  pub answer : plain (o .answer) ≡ r (beyond (o .answer)) .answer
+  pub items : wholes (o .blocks) m .items ≡ r (beyond (o .answer)) .words
 
 -- the search counts play no part in what a read says
 plain-verdict : (limit now v s : ℕ) → plain (verdict limit now v s) ≡ verdict limit now v s
@@ -45,7 +45,7 @@ plain-verdict limit now v s = go (is-fresh limit now s) (ltb now s)
     go false true = refl
     go false false = refl
 
-module _ (Y : Yard) (who : Answer → ℕ) (m : Mem) where
+module _ (Y : Shape) (who : Answer → ℕ) (m : Mem) where
   abbrev l : List ℕ
   l = m .items
 
@@ -53,13 +53,13 @@ module _ (Y : Yard) (who : Answer → ℕ) (m : Mem) where
   pub still : (a b : Answer) → plain a ≡ b → Step Y who m (tell a) (λ f. stay l b)
   still a b e = record { tale = done; answer = e; items = refl }
 
-  pub both : (b : Bool) {o o′ : Outcome} {r r′ : Bool → Row} → (b ≡ true → Step Y who m o r) → (b ≡ false → Step Y who m o′ r′)
+  pub both : (b : Bool) {o o′ : Outcome} {r r′ : ℕ → Row} → (b ≡ true → Step Y who m o r) → (b ≡ false → Step Y who m o′ r′)
       → Step Y who m (choose b o o′) (λ f. choose b (r f) (r′ f))
   both true t f = t refl
   both false t f = f refl
 
   -- the turns 2, 3, 8 and 4
-  pub step-asked : WellFormed Y m → (x : ℕ) (bad bad′ : Bool) → bad ≡ bad′ → (o : Outcome) (r : Bool → Row) → (x ≢ 0 → Step Y who m o r)
+  pub step-asked : WellFormed Y m → (x : ℕ) (bad bad′ : Bool) → bad ≡ bad′ → (o : Outcome) (r : ℕ → Row) → (x ≢ 0 → Step Y who m o r)
       → Step Y who m (asked Y m x bad o) (λ f. row-asked (Y .places) l x bad′ (r f))
   step-asked g x bad bad′ e o r h =
       subst (λ o. Step Y who m o (λ f. row-asked (Y .places) l x bad′ (r f)))
@@ -67,7 +67,7 @@ module _ (Y : Yard) (who : Answer → ℕ) (m : Mem) where
       (both (eqb x 0) (λ z. still (refused 2) (refused 2) refl)
       λ z. both bad′ (λ z. still (refused 3) (refused 3) refl) λ z′. h (eqb-false x 0 z))
 
-module _ (Y : Yard) (L : Lawful Y) (m : Mem) (g : WellFormed Y m) where
+module _ (Y : Shape) (L : Lawful Y) (m : Mem) (g : WellFormed Y m) where
   -- o is what a walk over the places to animal x finds
   abbrev pub Held : ℕ → Option ℕ → Type 0
   Held x o = First (λ p. eqb (animal (m .items) p) x) (range 0 (Y .places)) o
@@ -76,7 +76,7 @@ module _ (Y : Yard) (L : Lawful Y) (m : Mem) (g : WellFormed Y m) where
   walked x = walk-to (m .items) x (Y .places) 0
 
   -- put what the walk finds in for what the table finds
-  pub as-walked : (who : Answer → ℕ) (x : ℕ) → x ≢ 0 → (o : Option ℕ → Outcome) (r : Option ℕ → Bool → Row)
+  pub as-walked : (who : Answer → ℕ) (x : ℕ) → x ≢ 0 → (o : Option ℕ → Outcome) (r : Option ℕ → ℕ → Row)
       → ((p : Option ℕ) → Held x p → Step Y who m (o p) (r p)) → Step Y who m (o (held Y m x)) (r (walked x))
   as-walked who x nz o r h =
       subst (λ p. Step Y who m (o p) (r (walked x))) (sym (held-walk Y m g x nz))
@@ -110,26 +110,22 @@ module _ (Y : Yard) (L : Lawful Y) (m : Mem) (g : WellFormed Y m) where
       fresh? : Bool
       fresh? = is-fresh limit now (stamp (m .items) p)
 
-  pub step-find : (x : ℕ) (o : Option ℕ) → Step Y (λ a. x) m (tell (find-at Y o)) (λ f. stay (m .items) (row-find (Y .places) o))
+  pub step-find : (x : ℕ) (o : Option ℕ) → Step Y (λ a. x) m (tell (find-at o)) (λ f. stay (m .items) (row-find (Y .places) o))
   step-find x none = still Y (λ a. x) m absent absent refl
   step-find x (some p) = still Y (λ a. x) m (at-place p) (at-place p) refl
-
-  pub tagged-word : (y x : ℕ) → tag y ≡ Y .tag-of x → y ≢ 0
-  unfolding tag
-  tagged-word y x e z = omega (arith, L .tag-low x)
 
   hit-tag : (x i : ℕ) → hits Y m x i ≡ true → tag (word m i) ≡ Y .tag-of x
   unfolding hits
   hit-tag x i t = both-is (tag (word m i)) (Y .tag-of x) (animal (m .items) (place (word m i))) x t .0
 
   pub step-delete : (x : ℕ) → x ≢ 0 → {o : Option ℕ} → First (hits Y m x) (homes Y x) o
-      → Step Y (λ a. x) m (delete-at Y m x o) (λ f. row-delete (Y .places) (m .items) (place-at Y m o))
+      → Step Y (λ a. x) m (delete-at Y m x o) (λ f. row-delete (Y .places) (m .items) (place-at m o))
   step-delete x nz (missing h) = still Y (λ a. x) m (refused 7) (refused 7) refl
   step-delete x nz (found {i = i} q t) =
       let e = hit-number Y m g x nz i t in
       let w : tag (word m i) ≡ Y .tag-of x = hit-tag x i t in
       let f : Fits Y m (remove (counter-of Y x) i (place (word m i)))
-      = ((tagged-word (word m i) x w, refl), ap (counter-of Y) (sym e)) in
+      = ((tagged-word L (word m i) x w, refl), ap (counter-of Y) (sym e)) in
       record { tale = last f e; answer = refl; items = refl }
 
   pub step-list : (size : ℕ)

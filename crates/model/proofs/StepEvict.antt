@@ -11,22 +11,23 @@ use lib.Dec.{eqb, leb}
 use borrow.Author.Tests.{ne-eqb, leb-false}
 use Rattle.model.specs.Choice.{choose}
 use Rattle.model.specs.Memory.{Mem, animal, place, tag, word}
-use Rattle.model.specs.Yard.{Yard, counter-of, homes}
+use Rattle.model.specs.Shape.{Shape, counter-of, homes}
 use Rattle.model.specs.Stores.{Block, recency, remove, whole, wholes}
-use Rattle.model.specs.Answers.{evict, refused, victim-in}
+use Rattle.model.specs.Answers.{refused, victim-in}
 use Rattle.model.specs.Clock.{Victim, clears, victim}
 use Rattle.model.specs.Calls.{Outcome, busy, call, clear-blocks, evict-at, evict-slot, refuse, slot-of, some-live}
 use Rattle.model.specs.Row.{Row, fill, row-call, row-clock, row-count, row-evict, stay}
 use Rattle.model.specs.WellFormed.{Live, Right, WellFormed}
-use Rattle.model.proofs.Lawful.{Lawful}
-use Rattle.model.proofs.Laws.{First, both-is, both-yes, first-is, found, missing, true-false}
-use Rattle.model.proofs.Calm.{none-hurt}
-use Rattle.model.proofs.Keep.{keep}
-use Rattle.model.proofs.Agree.{home-in}
+use Rattle.model.proofs.ShapeLaws.{Lawful, tagged-word}
+use Rattle.model.proofs.ListLaws.{First, both-is, both-yes, first-is, found, missing, true-false}
+use Rattle.model.proofs.Calm.{none-damaged}
+use Rattle.model.proofs.KeepBlocks.{keep}
+use Rattle.model.proofs.ReadWalk.{home-in}
 use Rattle.model.proofs.Cut.{Tale, last, quiet}
 use Rattle.model.proofs.Clock.{AllLive, Sought, nobody, passed-live, row-clock-is, row-turned, rub, somebody, sought}
-use Rattle.model.proofs.Apart.{live-one}
-use Rattle.model.proofs.Step.{Step, both, still, tagged-word}
+use Rattle.model.proofs.RowWords.{live-one}
+use Rattle.model.proofs.Step.{Step, both, still}
+use Rattle.model.specs.Calling.{evict}
 
 -- clears change no animal
 pub cleared-animal : (l : List ℕ) (p v q : ℕ) → animal (set l (4 * p + 3) v) q ≡ animal l q
@@ -36,11 +37,11 @@ still-live : (l l′ : List ℕ) → ((q : ℕ) → animal l′ q ≡ animal l q
 still-live l l′ h [] a = tt
 still-live l l′ h (p ∷ ps) a = (λ z. a .0 (h p ∙ z), still-live l l′ h ps (a .1))
 
-module _ (Y : Yard) (L : Lawful Y) where
+module _ (Y : Shape) (L : Lawful Y) where
   -- clears, and then what comes last
   clears-tale : (a : ℕ) (ps : List ℕ) (m : Mem) → WellFormed Y m → AllLive (m .items) ps → (rest : List Block)
       → ((m′ : Mem) → WellFormed Y m′ → m′ .slots ≡ m .slots → ((q : ℕ) → animal (m′ .items) q ≡ animal (m .items) q) → Tale Y a m′ rest)
-      → Tale Y a m (clear-blocks Y ps ++ rest)
+      → Tale Y a m (clear-blocks ps ++ rest)
   clears-tale a [] m g lv rest k = k m g refl (λ q. refl)
   clears-tale a (p ∷ ps) m g lv rest k =
       quiet {b = recency p 0} (lv .0) tt
@@ -49,11 +50,11 @@ module _ (Y : Yard) (L : Lawful Y) where
       λ m′ g′ es ea. k m′ g′ es (λ q. ea q ∙ cleared-animal (m .items) p 0 q))
 
   clears-items : (c i v : ℕ) (ps : List ℕ) (m : Mem)
-      → wholes (clear-blocks Y ps ++ (remove c i v ∷ [])) m .items ≡ fill (rub (m .items) ps) v 0 0 0 0
+      → wholes (clear-blocks ps ++ (remove c i v ∷ [])) m .items ≡ fill (rub (m .items) ps) v 0 0 0 0
   clears-items c i v [] m = refl
   clears-items c i v (p ∷ ps) m = clears-items c i v ps (whole (recency p 0) m)
 
-module _ (Y : Yard) (L : Lawful Y) (m : Mem) (g : WellFormed Y m) (hand : ℕ) where
+module _ (Y : Shape) (L : Lawful Y) (m : Mem) (g : WellFormed Y m) (hand : ℕ) where
   -- the row's evict, where the victim was found before any store
   abbrev row-found : Option Victim → Row
   row-found o = row-evict (Y .places) (m .items) (row-turned (Y .places) (m .items) hand o)
@@ -75,7 +76,7 @@ module _ (Y : Yard) (L : Lawful Y) (m : Mem) (g : WellFormed Y m) (hand : ℕ) w
         tale = clears-tale Y L x ps m g (passed-live (Y .places) (m .items) (min (v .looked - 1) (Y .places)) hand)
             (remove (counter-of Y x) i (v .place) ∷ [])
             λ m′ g′ es ea. last {b = remove (counter-of Y x) i (v .place)}
-            (rw es (tagged-word Y L m g (word m i) x (b .0), b .1), ap (counter-of Y) (sym (ea (v .place)))) (ea (v .place));
+            (rw es (tagged-word L (word m i) x (b .0), b .1), ap (counter-of Y) (sym (ea (v .place)))) (ea (v .place));
         answer = refl;
         items = clears-items Y L (counter-of Y x) i (v .place) ps m;
       }
@@ -86,7 +87,7 @@ module _ (Y : Yard) (L : Lawful Y) (m : Mem) (g : WellFormed Y m) (hand : ℕ) w
   step-victim (somebody {v = v} i lv k) =
       let x = animal (m .items) (v .place) in
       let calm′ : busy Y m x ≡ false = ne-eqb (getD (m .counters) (counter-of Y x) 0 % 2) 1 (omega (arith, g .even (counter-of Y x))) in
-      rw (calm′, none-hurt Y m (g .undamaged) (homes Y x))
+      rw (calm′, none-damaged Y m (g .undamaged) (homes Y x))
       (step-slot v lv (first-is (λ i. choose (eqb (tag (word m i)) (Y .tag-of x)) (eqb (place (word m i)) (v .place)) false) (homes Y x)))
 
   -- the turns 1 and 7, then the victim
@@ -104,7 +105,7 @@ module _ (Y : Yard) (L : Lawful Y) (m : Mem) (g : WellFormed Y m) (hand : ℕ) w
       (sym (row-clock-is (Y .places) (m .items) hand low (g .items-long)))
       (step-victim (sought (Y .places) (m .items) (2 * Y .places) hand 0 low))))
     where
-      seven : (b : Bool) {o : Outcome} {r : Bool → Row} → Step Y victim-in m o r
+      seven : (b : Bool) {o : Outcome} {r : ℕ → Row} → Step Y victim-in m o r
           → Step Y victim-in m (choose (not b) o (refuse 7)) (λ f. choose b (stay (m .items) (refused 7)) (r f))
       seven true s = still Y victim-in m (refused 7) (refused 7) refl
       seven false s = s

@@ -2,25 +2,24 @@
 use Prim.Native.Nat.{ℕ}
 use mathlib.Core.Path.{refl, subst}
 use mathlib.Core.Bool.{false}
-use lib.Dec.{eqb}
 use denote.Ref.{now}
 use lib.Ieee.{size}
 use Rattle.model.specs.Memory.{Mem}
-use Rattle.model.specs.Yard.{Yard, homes}
-use Rattle.model.specs.Answers.{Call, Typed, about, delete, evict, find, read, serve, set-animal, write-list}
-use Rattle.model.specs.Age.{bad-time, judge, stamp-of, standing}
+use Rattle.model.specs.Shape.{Shape, homes}
+use Rattle.model.specs.Age.{bad-time, judge, bad-grant}
 use Rattle.model.specs.Calls.{call, delete-at, find-at, held, hit, hits, serve-at, set-at, tell}
-use Rattle.model.specs.Row.{row-bad-time, row-call, row-delete, row-find, row-read, row-serve, row-set, row-stamp, stay}
+use Rattle.model.specs.Row.{row-bad-time, row-call, row-delete, row-find, row-read, row-serve, row-set, stay}
 use Rattle.model.specs.WellFormed.{WellFormed}
-use Rattle.model.proofs.Lawful.{Lawful}
-use Rattle.model.proofs.Laws.{First, first-is}
-use Rattle.model.proofs.Agree.{held-walk}
-use Rattle.model.proofs.Apart.{stamp-is, time-is}
+use Rattle.model.proofs.ShapeLaws.{Lawful}
+use Rattle.model.proofs.ListLaws.{First, first-is}
+use Rattle.model.proofs.ReadWalk.{held-walk}
+use Rattle.model.proofs.RowWords.{time-is}
 use Rattle.model.proofs.Step.{Step, as-walked, step-asked, step-delete, step-find, step-list, step-read, step-serve, walked}
 use Rattle.model.proofs.StepSet.{step-set}
 use Rattle.model.proofs.StepEvict.{step-evict}
+use Rattle.model.specs.Calling.{Call, Typed, about, read, serve, find, set-animal, delete, evict, write-list}
 
-module _ (Y : Yard) (L : Lawful Y) (m : Mem) (g : WellFormed Y m) where
+module _ (Y : Shape) (L : Lawful Y) (m : Mem) (g : WellFormed Y m) where
   pub step : (c : Call) → Typed c → Step Y (about c) m (call Y m c) (λ f. row-call (Y .places) f (m .items) c)
   unfolding hit
   step (read x limit now) h =
@@ -34,15 +33,14 @@ module _ (Y : Yard) (L : Lawful Y) (m : Mem) (g : WellFormed Y m) where
       λ nz. as-walked Y L m g (λ a. x) x nz (λ o. serve-at Y m limit now o)
       (λ o f. row-serve (Y .places) (m .items) limit now o) λ o k. step-serve Y L m g x limit now nz k
   step (find x) h =
-      step-asked Y (λ a. x) m g x false false refl (tell (find-at Y (held Y m x))) (λ f. stay (m .items) (row-find (Y .places) (walked Y L m g x)))
-      λ nz. as-walked Y L m g (λ a. x) x nz (λ o. tell (find-at Y o)) (λ o f. stay (m .items) (row-find (Y .places) o)) λ o k. step-find Y L m g x o
-  step (set-animal x v now s) h =
-      step-asked Y (λ a. x) m g x (eqb now standing) (eqb now standing) refl (set-at Y m x v (stamp-of now s) (held Y m x))
-      (λ f. row-set (Y .places) f (m .items) x v (row-stamp (Y .places) now s) (walked Y L m g x))
-      λ nz. subst (λ t. Step Y (λ a. x) m (set-at Y m x v (stamp-of now s) (held Y m x)) (λ f. row-set (Y .places) f (m .items) x v t (walked Y L m g x)))
-      (stamp-is (Y .places) now s)
-      (as-walked Y L m g (λ a. x) x nz (λ o. set-at Y m x v (stamp-of now s) o) (λ o f. row-set (Y .places) f (m .items) x v (stamp-of now s) o)
-      λ o k. step-set Y L m g x v (stamp-of now s) nz h k)
+      step-asked Y (λ a. x) m g x false false refl (tell (find-at (held Y m x))) (λ f. stay (m .items) (row-find (Y .places) (walked Y L m g x)))
+      λ nz. as-walked Y L m g (λ a. x) x nz (λ o. tell (find-at o)) (λ o f. stay (m .items) (row-find (Y .places) o)) λ o k. step-find Y L m g x o
+  step (set-animal q) h =
+      let x = q .animal in
+      step-asked Y (λ a. x) m g x (bad-grant q) (bad-grant q) refl (set-at Y m q (held Y m x))
+      (λ f. row-set (Y .places) f (m .items) q (walked Y L m g x))
+      λ nz. as-walked Y L m g (λ a. x) x nz (λ o. set-at Y m q o) (λ o f. row-set (Y .places) f (m .items) q o)
+      λ o k. step-set Y L m g q nz h k
   step (delete x) h =
       step-asked Y (λ a. x) m g x false false refl (delete-at Y m x (hit Y m x)) (λ f. row-delete (Y .places) (m .items) (walked Y L m g x))
       λ nz. subst (λ o. Step Y (λ a. x) m (delete-at Y m x (hit Y m x)) (λ f. row-delete (Y .places) (m .items) o)) (held-walk Y m g x nz)

@@ -8,7 +8,7 @@ use Rattle.model.specs.Memory.{Mem}
 use Rattle.model.specs.Stores.{Block, Store, apply, apply-all, bump, item-to, slot-to, stores, stores-of, whole, wholes}
 use Rattle.model.specs.AnyTable.{Write, counter, item, make, make-all, slot}
 use Rattle.model.specs.Ours.{traced, wipe}
-use Rattle.model.proofs.Laws.{all-append}
+use Rattle.model.proofs.ListLaws.{all-append}
 
 pub trace-cut : (ss : List Store) (m : Mem) (k : ℕ) → make-all (take k (traced m ss)) m ≡ apply-all (take k ss) m
 trace-cut [] m zero = refl

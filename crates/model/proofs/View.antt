@@ -9,12 +9,12 @@ use mathlib.Core.List.{List, [], _∷_, List·Memᴰ as In}
 use lib.ListN.{getD, set, take}
 use lib.Seq.{getD-set-other}
 use Rattle.model.specs.Memory.{Mem, animal, damaged, permission, place, stamp, tag, word}
-use Rattle.model.specs.Yard.{Yard, homes}
+use Rattle.model.specs.Shape.{Shape, homes}
 use Rattle.model.specs.Stores.{Store, apply, apply-all, bump, item-to, slot-to}
 use Rattle.model.specs.Answers.{Answer, absent}
 use Rattle.model.specs.Age.{judge, verdict}
 use Rattle.model.specs.Calls.{hit, hits, place-at}
-use Rattle.model.proofs.Laws.{First, at-set, both-is, both-yes, first-is, found, missing, true-false}
+use Rattle.model.proofs.ListLaws.{First, at-set, both-is, both-yes, first-is, found, missing, true-false}
 
 -- an entry: its slot, place, permission and stamp
 pub record Entry : Type 0 where
@@ -28,7 +28,7 @@ abbrev pub told : ℕ → ℕ → Option Entry → Answer
 told limit now none = absent
 told limit now (some e) = verdict limit now (e .permission) (e .stamp)
 
-module _ (Y : Yard) (x : ℕ) where
+module _ (Y : Shape) (x : ℕ) where
   -- the entry stands in memory
   pub record Stands (m : Mem) (e : Entry) : Type 0 where
     pub home : In (e .slot) (homes Y x)
@@ -121,7 +121,7 @@ module _ (Y : Yard) (x : ℕ) where
 
   -- what a reader works out
   module _ {m : Mem} where
-    told-is : (limit now : ℕ) (o : Option Entry) → View o m → {i : Option ℕ} → First (hits Y m x) (homes Y x) i → judge (m .items) limit now (place-at Y m i) ≡ told limit now o
+    told-is : (limit now : ℕ) (o : Option Entry) → View o m → {i : Option ℕ} → First (hits Y m x) (homes Y x) i → judge (m .items) limit now (place-at m i) ≡ told limit now o
     unfolding hits
     told-is limit now none r (missing h) = refl
     told-is limit now none r (found {i = i} q t) =
@@ -132,6 +132,6 @@ module _ (Y : Yard) (x : ℕ) where
         let p = r .only (place (word m i)) (both-is (tag (word m i)) (Y .tag-of x) (animal (m .items) (place (word m i))) x t .1) in
         rw p (rw (r .stands .permission-is, r .stands .stamp-is))
 
-    pub view-told : (limit now : ℕ) (o : Option Entry) → View o m → judge (m .items) limit now (place-at Y m (hit Y m x)) ≡ told limit now o
+    pub view-told : (limit now : ℕ) (o : Option Entry) → View o m → judge (m .items) limit now (place-at m (hit Y m x)) ≡ told limit now o
     unfolding hit
     view-told limit now o r = told-is limit now o r (first-is (hits Y m x) (homes Y x))

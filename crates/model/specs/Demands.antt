@@ -1,25 +1,22 @@
 -- The three demands, over any table; and, beyond the order, that no entry is ever lost. Assumes nothing.
-use Prim.Native.Nat.{ℕ, _+_, _-_, _*_, _/_, _^_, _<_, _≤_}
+use Prim.Native.Nat.{ℕ, _+_, _-_, _*_, _/_, _^_, _<_, _≤_, _%_}
 use mathlib.Core.Path.{_≡_}
 use mathlib.Core.Logic.{_≢_, _↔_, _⊎_}
-use mathlib.Core.Bool.{Bool, true}
+use mathlib.Core.Bool.{true}
 use mathlib.Core.Option.{none, some}
 use mathlib.Core.List.{List, [], _∷_, List·Memᴰ as In}
 use lib.ListN.{length, getD, set}
 use Rattle.model.specs.Memory.{Mem, animal, permission, stamp}
-use Rattle.model.specs.Yard.{Yard, pair, second-of, bucket, Home, homes, right-lengths, yard-of}
+use Rattle.model.specs.Shape.{Shape, pair, second-of, bucket, Home, homes, right-lengths, shape-of, Ways}
 use Rattle.model.specs.Moves.{Move, moved-by, Free, Run}
 use Rattle.model.specs.Visits.{sum-of-powers, visit-list}
-use Rattle.model.specs.Answers.{Call, read, serve, set-animal, Event, make-fresh, did, Typed, AllTyped, about, gone, HasCut}
-use Rattle.model.specs.Answers.{Answer, refused, fresh, stored, started}
-use Rattle.model.specs.Age.{standing}
+use Rattle.model.specs.Calling.{Call, read, serve, set-animal, Event, make-fresh, did, Typed, AllTyped, about, gone, HasCut}
+use Rattle.model.specs.Answers.{Answer, refused, fresh, stored, started, Listed}
+use Rattle.model.specs.Age.{no-minute, standing-mark}
 use Rattle.model.specs.Calls.{hits}
-use Rattle.model.specs.Row.{walk-to, row-event, plain, no-room}
+use Rattle.model.specs.Row.{walk-to, row-event, plain, beyond}
+use Rattle.model.specs.declared.Grant.{Grant}
 use Rattle.model.specs.AnyTable.{Table, leaves, cut-at, left, beside}
-
--- document 01's refusal numbers
-abbrev pub Listed : ℕ → Type 0
-Listed n = (1 ≤ n) × (n ≤ 10)
 
 -- Demand 1. Every call ends, on any numbers and any memory contents, and asks nothing of its caller: that is what a table is. A refusal
 -- is one number from document 01 and changes no word, whole or cut
@@ -33,10 +30,30 @@ pub record Allowed (l : List ℕ) (x limit now v p : ℕ) : Type 0 where
   pub real : x ≢ 0
   pub animal-is : animal l p ≡ x
   pub permission-is : permission l p ≡ v
-  pub in-time : (stamp l p ≡ standing) ⊎ ((stamp l p ≤ now) × (now - stamp l p ≤ limit))
+  pub in-time : (stamp l p ≡ standing-mark) ⊎ ((stamp l p ≤ now) × (now - stamp l p ≤ limit))
 
--- what demand 3 says of the slots T of a yard and of an animal x
-module _ (Y : Yard) (T : List ℕ) (x : ℕ) where
+-- in any item words l, place p holds animal x with permission v modulo 2^32, and is standing or within the age limit
+pub record Holds (l : List ℕ) (x limit now v p : ℕ) : Type 0 where
+  pub real : x ≢ 0
+  pub inside : 4 * p < length l
+  pub animal-is : animal l p ≡ x
+  pub permission-is : permission l p % 2 ^ 32 ≡ v
+  pub in-time : (stamp l p ≡ standing-mark) ⊎ ((stamp l p ≤ now) × (now - stamp l p ≤ limit))
+
+-- Fresh anywhere, beyond the order: on any lent memory, a damaged cabinet's too, fresh is said only of such a place
+abbrev pub FreshAnywhere : Table → Type 0
+FreshAnywhere T = (m : Mem) (x limit now v a : ℕ)
+    → (T .answer m (did (read x limit now)) ≡ fresh v a) ⊎ (T .answer m (did (serve x limit now)) ≡ fresh v a)
+    → (p : ℕ) × Holds (m .items) x limit now v p
+
+-- good inputs of a set: what a caller can pass and neither refusal 2 nor 3 refuses
+pub record GoodInputs (g : Grant) : Type 0 where
+  pub typed : g .permission < 2 ^ 32
+  pub real : g .animal ≢ 0
+  pub timely : g .minute ≢ no-minute
+
+-- what demand 3 says of the slots T of a shape and of an animal x
+module _ (Y : Shape) (T : List ℕ) (x : ℕ) where
   -- legal moves, one after the other, that leave a free slot in one of the animal's two buckets
   abbrev pub Opens : List Move → Type 0
   Opens ms = Run (Y .layout) T ms
@@ -91,23 +108,23 @@ module _ (Y : Yard) (T : List ℕ) (x : ℕ) where
     pub whole-list : a ≡ refused 6 → (length visits-of ≡ most-visits) × ((j : ℕ) → j < most-visits → ¬ Free (Y .layout) T (visit j))
 
 -- a reader who trusts no counter still finds x: a home slot has its tag and points to its number
-abbrev pub Stands : Yard → Mem → ℕ → Type 0
+abbrev pub Stands : Shape → Mem → ℕ → Type 0
 Stands Y m x = (i : ℕ) × In i (homes Y x) × (hits Y m x i ≡ true)
 
 -- w ways, at most d moves, and the good numbers of buckets ns: for the gate 4, 4, and the powers of two from 2 to 2,048
-module _ (w d : ℕ) (ns : List ℕ) where
+module _ (W : Ways) where
   -- lent memory is made fresh, and then calls are made, each to its end
   pub record Story : Type 0 where
     pub memory : Mem
-    pub right : right-lengths w d ns memory ≡ true
+    pub right : right-lengths W memory ≡ true
     pub calls : List Event
     pub typed : AllTyped calls
 
   abbrev pub places : Story → ℕ
   places s = length (s .memory .items) / 4
 
-  abbrev pub yard-in : Story → Yard
-  yard-in s = yard-of w d ns (s .memory)
+  abbrev pub shape-in : Story → Shape
+  shape-in s = shape-of W (s .memory)
 
   -- the memory that a story leaves, and the row beside it
   abbrev pub table : Table → Story → Mem
@@ -120,7 +137,7 @@ module _ (w d : ℕ) (ns : List ℕ) where
   -- search counts
   abbrev pub AsRow : Table → Type 0
   AsRow T = (s : Story) (e : Event) → AllTyped (e ∷ [])
-      → plain (T .answer (table T s) e) ≡ row-event (places s) (no-room (T .answer (table T s) e)) (row T s) e .answer
+      → plain (T .answer (table T s) e) ≡ row-event (places s) (beyond (T .answer (table T s) e)) (row T s) e .answer
 
   -- and the item words are those of the row, word for word
   abbrev pub SameWords : Table → Type 0
@@ -148,22 +165,28 @@ module _ (w d : ℕ) (ns : List ℕ) where
       → SeenBy T (table T s) (leaves T (table T s) (did c)) (cut-at T k (table T s) (did c)) (about c (T .answer (table T s) (did c)))
       x limit now
 
+  -- a set of an animal that the row holds reports 0 visits and 0 moves
+  abbrev pub HeldCounts : Table → Type 0
+  HeldCounts T = (s : Story) (g : Grant) → GoodInputs g → (p : ℕ) → walk-to (row T s) (g .animal) (places s) 0 ≡ some p
+      → T .answer (table T s) (did (set-animal g)) ≡ stored 0 0
+
   pub record Demand2 (T : Table) : Type 0 where
-    pub starts : (m : Mem) → right-lengths w d ns m ≡ true → T .answer m make-fresh ≡ started
+    pub starts : (m : Mem) → right-lengths W m ≡ true → T .answer m make-fresh ≡ started
     pub as-row : AsRow T
     pub same-words : SameWords T
     pub fresh-only : FreshOnly T
     pub cut-reads : CutReads T
+    pub no-search : HeldCounts T
 
   -- Demand 3. On a table made by finished calls, for an absent animal, a vacant place and good inputs
   abbrev pub Demand3 : Table → Type 0
-  Demand3 T = (s : Story) (x v now : ℕ) (forever : Bool) → v < 2 ^ 32 → x ≢ 0 → now ≢ standing
-      → walk-to (row T s) x (places s) 0 ≡ none → (p : ℕ) → walk-to (row T s) 0 (places s) 0 ≡ some p
-      → Roomy (yard-in s) (table T s .slots) x (T .answer (table T s) (did (set-animal x v now forever)))
-      (leaves T (table T s) (did (set-animal x v now forever)) .slots)
+  Demand3 T = (s : Story) (g : Grant) → GoodInputs g
+      → walk-to (row T s) (g .animal) (places s) 0 ≡ none → (p : ℕ) → walk-to (row T s) 0 (places s) 0 ≡ some p
+      → Roomy (shape-in s) (table T s .slots) (g .animal) (T .answer (table T s) (did (set-animal g)))
+      (leaves T (table T s) (did (set-animal g)) .slots)
 
   -- Never lost, beyond the order: at every cut each animal that the row holds, but the one that the call takes away, stands in one of
   -- its home slots
   abbrev pub NeverLost : Table → Type 0
   NeverLost T = (s : Story) (c : Call) → Typed c → HasCut c → (x p : ℕ) → x ≢ 0 → walk-to (row T s) x (places s) 0 ≡ some p
-      → x ≢ gone c (T .answer (table T s) (did c)) → (k : ℕ) → Stands (yard-in s) (cut-at T k (table T s) (did c)) x
+      → x ≢ gone c (T .answer (table T s) (did c)) → (k : ℕ) → Stands (shape-in s) (cut-at T k (table T s) (did c)) x

@@ -1,6 +1,6 @@
 -- The plain row of places: the same calls over four words a place, with no slots, no tags, no hash and no counters. It is written
 -- apart from the table: its own walk, its own judgement of age, its own CLOCK and its own list. Assumes nothing.
-use Prim.Native.Nat.{ℕ, zero, suc, _+_, _-_, _*_, _/_, _%_, _^_, _<_}
+use Prim.Native.Nat.{ℕ, zero, suc, _+_, _-_, _*_, _/_, _%_, _^_}
 use mathlib.Core.Bool.{Bool, true, false, not, _&&_}
 use mathlib.Core.Option.{Option, none, some}
 use mathlib.Core.List.{List, [], _∷_, _++_}
@@ -8,9 +8,9 @@ use lib.ListN.{set, replicate}
 use lib.Dec.{ltb, leb, eqb}
 use Rattle.model.specs.Choice.{choose}
 use Rattle.model.specs.Memory.{animal, permission, stamp, recent}
-use Rattle.model.specs.Answers.{Call, read, serve, find, set-animal, delete, evict, write-list}
-use Rattle.model.specs.Answers.{Event, make-fresh, did}
-use Rattle.model.specs.Answers.{Answer, refused, absent, fresh, old, ahead, stored, deleted, evicted, started, listed, at-place}
+use Rattle.model.specs.Calling.{Call, read, serve, find, set-animal, delete, evict, write-list, Event, make-fresh, did}
+use Rattle.model.specs.Answers.{Answer, refused, absent, fresh, old, ahead, stored, deleted, evicted, started, listed, at-place, is, paper, says-fresh}
+use Rattle.model.specs.declared.Grant.{Grant}
 
 -- what a call on a row comes to: its answer and the row afterwards
 pub record Row : Type 0 where
@@ -41,20 +41,6 @@ unfoldable pub row-says : ℕ → ℕ → ℕ → ℕ → Answer
 row-says limit now v s =
     choose (eqb s (2 ^ 64 - 1)) (fresh v 0)
     (choose (ltb now s) ahead (choose (ltb limit (now - s)) (old (now - s)) (fresh v (now - s))))
-
--- whether that is fresh
-abbrev pub says-fresh : Answer → Bool
-says-fresh (refused n) = false
-says-fresh absent = false
-says-fresh (fresh v a) = true
-says-fresh (old a) = false
-says-fresh ahead = false
-says-fresh (stored v n) = false
-says-fresh deleted = false
-says-fresh (evicted x n h) = false
-says-fresh started = false
-says-fresh (listed n l) = false
-says-fresh (at-place p) = false
 
 -- CLOCK as document 01 tells it. From the hand p on: skip a vacant place; store 0 in the recent word of a recent one and pass; take
 -- the first live one that isn't recent. n places were looked at before, and at most f more are
@@ -119,19 +105,20 @@ module _ (M : ℕ) where
   row-find none = absent
   row-find (some p) = at-place p
 
-  -- set: `full` says that the table has no room for a new entry, which a row can't know: then it is refusal 6
-  abbrev pub row-new : Bool → List ℕ → ℕ → ℕ → ℕ → Option ℕ → Row
-  row-new full l x v s none = stay l (refused 5)
-  row-new full l x v s (some p) =
-      choose full (stay l (refused 6)) (record { answer = stored 0 0; words = fill l p x v s 1 })
+  -- the stamp of a set: standing, or the minute of arrival
+  abbrev pub row-stamp : Grant → ℕ
+  row-stamp g = choose (g .standing) (2 ^ 64 - 1) (g .minute)
 
-  abbrev pub row-set : Bool → List ℕ → ℕ → ℕ → ℕ → Option ℕ → Row
-  row-set full l x v s none = row-new full l x v s (walk-to l 0 M 0)
-  row-set full l x v s (some p) = record { answer = stored 0 0; words = renew l p v s }
+  -- set: a row can't know whether the table has room for a new entry, so it is told: `told` is 6 if it has none
+  abbrev pub row-new : ℕ → List ℕ → Grant → Option ℕ → Row
+  row-new told l g none = stay l (refused 5)
+  row-new told l g (some p) =
+      choose (eqb told 6) (stay l (refused 6))
+      (record { answer = stored 0 0; words = fill l p (g .animal) (g .permission) (row-stamp g) 1 })
 
-  abbrev pub row-stamp : ℕ → Bool → ℕ
-  row-stamp now true = 2 ^ 64 - 1
-  row-stamp now false = now
+  abbrev pub row-set : ℕ → List ℕ → Grant → Option ℕ → Row
+  row-set told l g none = row-new told l g (walk-to l 0 M 0)
+  row-set told l g (some p) = record { answer = stored 0 0; words = renew l p (g .permission) (row-stamp g) }
 
   abbrev pub row-delete : List ℕ → Option ℕ → Row
   row-delete l none = stay l (refused 7)
@@ -146,48 +133,28 @@ module _ (M : ℕ) where
       }
 
   -- every call on a row
-  abbrev pub row-call : Bool → List ℕ → Call → Row
-  row-call full l (read x limit now) =
+  abbrev pub row-call : ℕ → List ℕ → Call → Row
+  row-call told l (read x limit now) =
       row-asked l x (row-bad-time limit now) (stay l (row-read l limit now (walk-to l x M 0)))
-  row-call full l (serve x limit now) = row-asked l x (row-bad-time limit now) (row-serve l limit now (walk-to l x M 0))
-  row-call full l (find x) = row-asked l x false (stay l (row-find (walk-to l x M 0)))
-  row-call full l (set-animal x v now s) =
-      row-asked l x (eqb now (2 ^ 64 - 1)) (row-set full l x v (row-stamp now s) (walk-to l x M 0))
-  row-call full l (delete x) = row-asked l x false (row-delete l (walk-to l x M 0))
-  row-call full l (evict hand) =
+  row-call told l (serve x limit now) = row-asked l x (row-bad-time limit now) (row-serve l limit now (walk-to l x M 0))
+  row-call told l (find x) = row-asked l x false (stay l (row-find (walk-to l x M 0)))
+  row-call told l (set-animal g) =
+      row-asked l (g .animal) (eqb (g .minute) (2 ^ 64 - 1)) (row-set told l g (walk-to l (g .animal) M 0))
+  row-call told l (delete x) = row-asked l x false (row-delete l (walk-to l x M 0))
+  row-call told l (evict hand) =
       choose (leb M hand) (stay l (refused 1))
       (choose (eqb (row-count l M 0) 0) (stay l (refused 7)) (row-evict l (row-clock M l (2 * M) hand 0)))
-  row-call full l (write-list size) =
+  row-call told l (write-list size) =
       stay l (choose (ltb size (20 * row-count l M 0)) (refused 9) (listed (row-count l M 0) (row-list l M 0)))
 
   -- with fresh among the calls: every word is 0
-  abbrev pub row-event : Bool → List ℕ → Event → Row
-  row-event full l make-fresh = record { answer = started; words = replicate (4 * M) 0 }
-  row-event full l (did c) = row-call full l c
+  abbrev pub row-event : ℕ → List ℕ → Event → Row
+  row-event told l make-fresh = record { answer = started; words = replicate (4 * M) 0 }
+  row-event told l (did c) = row-call told l c
 
--- the exceptions of demand 2: an answer without the search counts, and whether it is refusal 6
+-- the exceptions of demand 2: an answer without the search counts; and the refusal that a row can't know, 0 if it is none
 abbrev pub plain : Answer → Answer
-plain (refused n) = refused n
-plain absent = absent
-plain (fresh v a) = fresh v a
-plain (old a) = old a
-plain ahead = ahead
-plain (stored v n) = stored 0 0
-plain deleted = deleted
-plain (evicted x n h) = evicted x n h
-plain started = started
-plain (listed n l) = listed n l
-plain (at-place p) = at-place p
+plain a = choose (is 4 a) (stored 0 0) a
 
-abbrev pub no-room : Answer → Bool
-no-room (refused n) = eqb n 6
-no-room absent = false
-no-room (fresh v a) = false
-no-room (old a) = false
-no-room ahead = false
-no-room (stored v n) = false
-no-room deleted = false
-no-room (evicted x n h) = false
-no-room started = false
-no-room (listed n l) = false
-no-room (at-place p) = false
+abbrev pub beyond : Answer → ℕ
+beyond a = choose (eqb (paper a .number) 6) 6 0

@@ -2,7 +2,8 @@
 use Prim.Native.Nat.{ℕ, _*_}
 use mathlib.Core.List.{List, _++_}
 use lib.ListN.{length, take, drop}
-use Rattle.model.specs.Answers.{Answer, refused, absent, fresh, old, ahead, stored, deleted, evicted, started, listed, at-place}
+use Rattle.model.specs.Choice.{choose}
+use Rattle.model.specs.Answers.{is, paper, Answer, refused, absent, fresh, old, ahead, stored, deleted, evicted, started, listed, at-place}
 use Rattle.model.specs.declared.Reading.{Reading}
 use Rattle.model.specs.declared.Reading.the-variants as reading
 use Rattle.model.specs.declared.Finding.{Finding}
@@ -59,14 +60,4 @@ said-starting (starting.Refused n) = refused n
 
 -- the buffer after the list: its bytes in front, and what stood behind them as it was
 abbrev pub listed-into : Answer → List ℕ → List ℕ
-listed-into (refused n) buffer = buffer
-listed-into absent buffer = buffer
-listed-into (fresh v a) buffer = buffer
-listed-into (old a) buffer = buffer
-listed-into ahead buffer = buffer
-listed-into (stored v n) buffer = buffer
-listed-into deleted buffer = buffer
-listed-into (evicted x n h) buffer = buffer
-listed-into started buffer = buffer
-listed-into (listed n bs) buffer = bs ++ drop (length bs) buffer
-listed-into (at-place p) buffer = buffer
+listed-into a buffer = choose (is 8 a) (drop 2 (paper a .values) ++ drop (length (drop 2 (paper a .values))) buffer) buffer

@@ -1,5 +1,20 @@
 // The types that every crate shares: what each call answers. The meaning of document 01 stands in specs/, the proofs in proofs/.
 
+// What a set takes.
+pub struct Grant {
+    pub animal: u64,
+    pub permission: u32,
+    pub minute: u64,
+    pub standing: bool,
+}
+
+// A move: the slot that it empties, the tag of the entry there, and the slot that the entry goes to.
+pub struct MoveRecord {
+    pub from: usize,
+    pub tag: u32,
+    pub to: usize,
+}
+
 // Read and serve.
 pub enum Reading {
     Absent,

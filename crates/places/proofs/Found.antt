@@ -12,7 +12,7 @@ use Rattle.model.specs.Memory.{animal, is-recent, live}
 use Rattle.model.specs.Clock.{Victim, next-hand, seek-victim, takes, victim}
 use Rattle.model.specs.Calls.{some-live, vacant-place}
 use Rattle.model.specs.WellFormed.{Live}
-use Rattle.model.proofs.Laws.{First, bool, first-is, found, in-range, missing, range-in, true-false}
+use Rattle.model.proofs.ListLaws.{First, bool, first-is, found, in-range, missing, range-in, true-false}
 use Rattle.model.proofs.Clock.{Sought, always-victim, live-is, live-true, nobody, somebody, sought}
 use Rattle.places.specs.Walks.{scanned, vacancy}
 use Rattle.places.specs.declared.Scan.{Scan}

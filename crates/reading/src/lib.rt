@@ -4,13 +4,13 @@ ghost use Prim.Native.Nat.{_+_, _*_};
 ghost use lib.ListN.{set};
 ghost use Rattle.model.specs.Choice.{choose};
 ghost use Rattle.model.specs.Memory.{mem, permission, stamp};
-ghost use Rattle.model.specs.Yard.{sizes};
-ghost use Rattle.model.specs.Answers.{read, serve, find};
+ghost use Rattle.model.specs.Shape.{four};
+ghost use Rattle.model.specs.Calling.{read, serve, find};
 ghost use Rattle.model.specs.Age.{verdict, bad-time};
 ghost use Rattle.model.specs.Lent.{lent-call};
 ghost use Rattle.model.specs.Said.{said-reading, said-finding};
 ghost use Rattle.looking.specs.Look.{Passed};
-ghost use Rattle.reading.specs.Serve.{Served};
+ghost use Rattle.model.specs.Promised.{WholeAs};
 use model::Finding;
 use model::Reading;
 
@@ -19,9 +19,9 @@ fn judged_at(items: &[u64], place: u32, limit: u64, minute: u64) -> Reading
     ensures { λ r. ⌜ said-reading r ≡ verdict limit minute (permission (now (items .entry)) place) (stamp (now (items .entry)) place) ⌝ }
 {
     let at = 4 * (place as usize);
-    judging::judged(
-        looking::get64(items, at + 1),
-        looking::get64(items, at + 2),
+    ageing::judged(
+        runs::get64(items, at + 1),
+        runs::get64(items, at + 2),
         limit,
         minute,
     )
@@ -36,21 +36,21 @@ fn read_good(
     limit: u64,
     minute: u64,
 ) -> Reading
-    requires { ⌜ Passed (mem (now slots) (now counters) (now items)) animal (bad-time limit minute) ⌝ }
+    requires { ⌜ Passed four (mem (now slots) (now counters) (now items)) animal (bad-time limit minute) ⌝ }
     ensures { λ r. ⌜ said-reading r
-        ≡ lent-call 4 4 sizes (mem (now (slots .entry)) (now (counters .entry)) (now (items .entry))) (read animal limit minute) .answer ⌝ }
+        ≡ lent-call four (mem (now (slots .entry)) (now (counters .entry)) (now (items .entry))) (read animal limit minute) .answer ⌝ }
 {
     let h = looking::homes_in(slots, counters, items, animal);
     if looking::is_odd(counters, h.counter) {
         return Reading::Refused(8);
     }
-    let e = looking::home_words_of(slots, h.first, h.second);
+    let e = home_words::home_words_of(slots, h.first, h.second);
     let m = (items.len() / 4) as u32;
-    if looking::any_damaged(e, m) {
+    if home_words::any_damaged(e, m) {
         return Reading::Refused(4);
     }
-    let sum = looking::sum_with_tag(e, h.tag);
-    let w = looking::hit_word(items, e, h.tag, animal, sum);
+    let sum = home_words::sum_with_tag(e, h.tag);
+    let w = home_words::hit_word(items, e, h.tag, animal, sum);
     if w == 0 {
         return Reading::Absent;
     }
@@ -66,14 +66,14 @@ pub fn read(
     minute: u64,
 ) -> Reading
     ensures { λ r. ⌜ said-reading r
-        ≡ lent-call 4 4 sizes (mem (now (slots .entry)) (now (counters .entry)) (now (items .entry))) (read animal limit minute) .answer ⌝ }
+        ≡ lent-call four (mem (now (slots .entry)) (now (counters .entry)) (now (items .entry))) (read animal limit minute) .answer ⌝ }
 {
     let no = looking::refused_early(
         slots.len(),
         counters.len(),
         items.len(),
         animal,
-        judging::is_bad_time(limit, minute),
+        ageing::is_bad_time(limit, minute),
     );
     if no != 0 {
         return Reading::Refused(no);
@@ -104,27 +104,26 @@ fn serve_good(
     limit: u64,
     minute: u64,
 ) -> Reading
-    requires { ⌜ Passed (mem (now slots) (now counters) (now items)) animal (bad-time limit minute) ⌝ }
-    ensures { λ r. ⌜ Served (mem (now (slots .entry)) (now (counters .entry)) (now (items .entry))) (serve animal limit minute)
-        (now (items .exit)) r ⌝ }
+    requires { ⌜ Passed four (mem (now slots) (now counters) (now items)) animal (bad-time limit minute) ⌝ }
+    ensures { λ r. ⌜ WholeAs four (mem (now (slots .entry)) (now (counters .entry)) (now (items .entry))) (serve animal limit minute)
+        (mem (now (slots .entry)) (now (counters .entry)) (now (items .exit))) (said-reading r) ⌝ }
 {
     let h = looking::homes_in(slots, counters, items, animal);
     if looking::is_odd(counters, h.counter) {
         return Reading::Refused(8);
     }
-    let e = looking::home_words_of(slots, h.first, h.second);
+    let e = home_words::home_words_of(slots, h.first, h.second);
     let m = (items.len() / 4) as u32;
-    if looking::any_damaged(e, m) {
+    if home_words::any_damaged(e, m) {
         return Reading::Refused(4);
     }
-    let sum = looking::sum_with_tag(e, h.tag);
-    let w = looking::hit_word(items, e, h.tag, animal, sum);
+    let sum = home_words::sum_with_tag(e, h.tag);
+    let w = home_words::hit_word(items, e, h.tag, animal, sum);
     if w == 0 {
         return Reading::Absent;
     }
     let told = judged_at(items, w % 65536, limit, minute);
-    let stamp = looking::get64(items, 4 * ((w % 65536) as usize) + 2);
-    mark_recent(items, w % 65536, judging::is_in_time(stamp, limit, minute));
+    mark_recent(items, w % 65536, ageing::is_fresh(told));
     told
 }
 
@@ -136,15 +135,15 @@ pub fn serve(
     limit: u64,
     minute: u64,
 ) -> Reading
-    ensures { λ r. ⌜ Served (mem (now (slots .entry)) (now (counters .entry)) (now (items .entry))) (serve animal limit minute)
-        (now (items .exit)) r ⌝ }
+    ensures { λ r. ⌜ WholeAs four (mem (now (slots .entry)) (now (counters .entry)) (now (items .entry))) (serve animal limit minute)
+        (mem (now (slots .entry)) (now (counters .entry)) (now (items .exit))) (said-reading r) ⌝ }
 {
     let no = looking::refused_early(
         slots.len(),
         counters.len(),
         items.len(),
         animal,
-        judging::is_bad_time(limit, minute),
+        ageing::is_bad_time(limit, minute),
     );
     if no != 0 {
         return Reading::Refused(no);
@@ -155,7 +154,7 @@ pub fn serve(
 // The place of an animal. Slot by slot, since nobody waits for it: with two callers the compiler keeps the slow path out of a read.
 pub fn find(slots: &[u32], counters: &[u32], items: &[u64], animal: u64) -> Finding
     ensures { λ r. ⌜ said-finding r
-        ≡ lent-call 4 4 sizes (mem (now (slots .entry)) (now (counters .entry)) (now (items .entry))) (find animal) .answer ⌝ }
+        ≡ lent-call four (mem (now (slots .entry)) (now (counters .entry)) (now (items .entry))) (find animal) .answer ⌝ }
 {
     let no = looking::refused_early(slots.len(), counters.len(), items.len(), animal, false);
     if no != 0 {
@@ -165,12 +164,12 @@ pub fn find(slots: &[u32], counters: &[u32], items: &[u64], animal: u64) -> Find
     if looking::is_odd(counters, h.counter) {
         return Finding::Refused(8);
     }
-    let e = looking::home_words_of(slots, h.first, h.second);
+    let e = home_words::home_words_of(slots, h.first, h.second);
     let m = (items.len() / 4) as u32;
-    if looking::any_damaged(e, m) {
+    if home_words::any_damaged(e, m) {
         return Finding::Refused(4);
     }
-    let w = looking::hit_by_slots(items, e, h.tag, animal);
+    let w = home_words::hit_by_slots(items, e, h.tag, animal);
     if w == 0 {
         return Finding::Absent;
     }

@@ -1,11 +1,12 @@
 -- The wrong tables that document 01 names, each a small change of ours, and one more that clears the source first. Assumes nothing.
 use Prim.Native.Nat.{ℕ}
 use mathlib.Core.List.{List, [], _∷_, _++_}
+use Rattle.model.specs.Choice.{choose}
+use Rattle.model.specs.Answers.{is, value, Answer, refused, stored}
 use Rattle.model.specs.Memory.{Mem}
-use Rattle.model.specs.Yard.{sizes}
+use Rattle.model.specs.Shape.{four, Ways}
 use Rattle.model.specs.Stores.{Block, Store, counted, enter, move, recency, remove, slot-to, stores-of, update}
-use Rattle.model.specs.Answers.{Answer, Event, absent, ahead, at-place, delete, deleted, did, evict, evicted, find, fresh, listed}
-use Rattle.model.specs.Answers.{make-fresh, old, read, refused, serve, set-animal, started, stored, write-list}
+use Rattle.model.specs.Calling.{Event, delete, did, evict, find, make-fresh, read, serve, set-animal, write-list}
 use Rattle.model.specs.Lent.{event-answer, lent-call}
 use Rattle.model.specs.AnyTable.{Table, Write}
 use Rattle.model.specs.Ours.{our-writes, traced}
@@ -16,24 +17,14 @@ misread f make-fresh a = a
 misread f (did (read x limit now)) a = f a
 misread f (did (serve x limit now)) a = f a
 misread f (did (find x)) a = a
-misread f (did (set-animal x v now s)) a = a
+misread f (did (set-animal g)) a = a
 misread f (did (delete x)) a = a
 misread f (did (evict hand)) a = a
 misread f (did (write-list size)) a = a
 
 -- the visit count is n, whatever the search did
 abbrev pub miscount : ℕ → Answer → Answer
-miscount n (refused k) = refused k
-miscount n absent = absent
-miscount n (fresh v a) = fresh v a
-miscount n (old a) = old a
-miscount n ahead = ahead
-miscount n (stored v k) = stored n k
-miscount n deleted = deleted
-miscount n (evicted x k h) = evicted x k h
-miscount n started = started
-miscount n (listed k l) = listed k l
-miscount n (at-place p) = at-place p
+miscount n a = choose (is 4 a) (stored n (value a 2)) a
 
 -- wrong stores: those of a set are left out, its moves, its new entry and its update
 abbrev pub forgets-sets : List Block → List Store
@@ -72,19 +63,19 @@ all-swapped [] = []
 all-swapped (b ∷ bs) = swapped b ++ all-swapped bs
 
 -- changes of our table, of any ways and moves
-module _ (w d : ℕ) (ns : List ℕ) where
+module _ (W : Ways) where
   -- other answers, and the same writes
   abbrev pub retold : (Event → Answer → Answer) → Table
-  retold f = record { answer = λ m e. f e (event-answer w d ns m e); writes = our-writes w d ns }
+  retold f = record { answer = λ m e. f e (event-answer W m e); writes = our-writes W }
 
   -- other stores for what a call does; fresh writes what ours writes
   abbrev pub built-writes : (List Block → List Store) → Mem → Event → List Write
-  built-writes f m make-fresh = our-writes w d ns m make-fresh
-  built-writes f m (did c) = traced m (f (lent-call w d ns m c .blocks))
+  built-writes f m make-fresh = our-writes W m make-fresh
+  built-writes f m (did c) = traced m (f (lent-call W m c .blocks))
 
   -- the same answers, and those stores
   abbrev pub built : (List Block → List Store) → Table
-  built f = record { answer = event-answer w d ns; writes = built-writes f }
+  built f = record { answer = event-answer W; writes = built-writes f }
 
 -- the wrong tables by name, for the gate: one that refuses everything, by whatever numbers, and writes nothing
 abbrev pub refuses-everything : (Mem → Event → ℕ) → Table
@@ -92,20 +83,20 @@ refuses-everything f = record { answer = λ m e. refused (f m e); writes = λ m 
 
 -- reads say f of what they should say: always absent, or always fresh, is a constant f
 abbrev pub misreads : (Answer → Answer) → Table
-misreads f = retold 4 4 sizes (misread f)
+misreads f = retold four (misread f)
 
 -- a set stores nothing and answers as ours does
 abbrev pub stores-nothing : Table
-stores-nothing = built 4 4 sizes forgets-sets
+stores-nothing = built four forgets-sets
 
 -- a set moves properly at the first displacement and only clears sources in later ones
 abbrev pub clears-later : Table
-clears-later = built 4 4 sizes first-proper
+clears-later = built four first-proper
 
 -- the visit count is always n
 abbrev pub counts : ℕ → Table
-counts n = retold 4 4 sizes (λ e. miscount n)
+counts n = retold four (λ e. miscount n)
 
 -- the source is cleared before the destination is written
 abbrev pub source-first : Table
-source-first = built 4 4 sizes all-swapped
+source-first = built four all-swapped

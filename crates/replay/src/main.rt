@@ -29,7 +29,7 @@ fn run(name: &[u8], from: i32) {
         say(b"replay: more than 2097152 bytes, nothing was replayed\n");
         return;
     }
-    replaying::replay(&text[..n]);
+    replay_loop::replay(&text[..n]);
 }
 
 fn use_file(path: &[u8]) {

@@ -1,6 +1,7 @@
-pub mod Words
-pub mod Visits
-pub mod Back
+pub mod Stops
+pub mod Queue
+pub mod Judging
 pub mod Visiting
-pub mod AtHome
-pub mod Laws
+pub mod FirstVisit
+pub mod Endings
+pub mod Inside

@@ -1,240 +1,131 @@
--- The visits one after the other: what holds at each, and what the search has found where it ends. Assumes nothing.
-use Prim.Native.Nat.{ℕ, _+_, _-_, _*_, _/_, _%_, _<_, _≤_}
+-- The visits of the four-way search: what is so at each, and what the search gives back where it ends there. Assumes nothing.
+use Prim.Native.Nat.{ℕ, _+_, _*_, _<_, _≤_}
 use native.Mathlib.Omega.{arith}
-use native.Mathlib.Decide.{ℕ-discrete, decLt}
-use mathlib.Core.Path.{_≡_, sym, ap, ap₂, _∙_}
-use mathlib.Core.Logic.{_⊎_, dite}
-use mathlib.Core.Bool.{true, false}
-use mathlib.Core.List.{List, [], _∷_}
-use lib.ListN.{length, getD, set, replicate, length-set, length-replicate}
-use lib.Seq.{getD-set-same, getD-set-other}
-use borrow.Author.Tests.{eq-eqb, ne-eqb}
+use mathlib.Core.Path.{_≡_, sym, ap, _∙_}
+use mathlib.Core.Bool.{Bool, true, false}
+use mathlib.Core.List.{List}
+use lib.ListN.{length, getD, set, replicate}
 use Rattle.model.specs.Memory.{damaged, tag}
 use Rattle.model.specs.Hash.{Size, other-bucket}
-use Rattle.model.specs.Moves.{Free}
-use Rattle.model.specs.Visits.{climb, first-free, free-slot, lands, search-moves, stop-slot}
+use Rattle.model.specs.Shape.{Layout, four}
 use Rattle.model.proofs.Hash.{size-most}
-use Rattle.model.proofs.Search.{first-same, full, lowest-same, slot-is, stop-is}
-use Rattle.searching.specs.declared.Move.{Move as Tagged}
-use Rattle.searching.specs.declared.Entry.{Entry}
-use Rattle.searching.specs.declared.Ending.the-variants.{Damaged, Nowhere, Room}
-use Rattle.searching.specs.declared.Found.{Found}
-use Rattle.searching.specs.Search.{Asked, FoundIs, at-end, four, in-row, no-move, no-room, words-of, wounded}
-use Rattle.searching.proofs.Words.{Judging, damage-none, damage-some, word-at}
-use Rattle.searching.proofs.Visits.{home, hurt, is-wounded, next-home, not-wounded, put-by, visit-in, vs, whole}
-use Rattle.searching.proofs.Back.{Back, back-end, back-start, back-step}
+use Rattle.paths.specs.declared.Entry.{Entry}
+use Rattle.paths.specs.declared.Ending.the-variants.{Damaged, Nowhere}
+use Rattle.paths.specs.declared.Found.{Found}
+use Rattle.paths.specs.Buckets.{bucket-words, layout-of}
+use Rattle.paths.specs.Path.{BackFrom, buckets-of, no-room, room-from}
+use Rattle.paths.proofs.Words.{damage-none, damage-one, free-first, free-none}
+use Rattle.paths.proofs.Visits.{damage-of, visit-in, visits-long, visits-of}
+use Rattle.paths.proofs.Back.{bucket-at, no-entry, room-same}
+use Rattle.searching.specs.Search.{Asked, FoundIs}
+use Rattle.searching.proofs.Stops.{Behind, behind-more, behind-none, stops-damaged, stops-nowhere, stops-with-room}
+use Rattle.searching.proofs.Queue.{Queued, queued-four, queued-homes}
+use Rattle.searching.proofs.Judging.{NoneDamaged, NoneFree}
 
 -- a bucket's number fits 16 bits
-pub fits-16 : {T : List ℕ} {n b c : ℕ} → Asked T n b c → (b < 65536) × (c < 65536)
-fits-16 ask = (omega (arith, ask .first-in, size-most (ask .size)), omega (arith, ask .second-in, size-most (ask .size)))
+pub first-fits : {T : List ℕ} {n b c : ℕ} → Asked four T n b c → b < 65536
+first-fits ask = omega (arith, ask .first-in, size-most (ask .size))
 
-abbrev pub no-entry : Entry
-no-entry = record { bucket = 0 }
+pub second-fits : {T : List ℕ} {n b c : ℕ} → Asked four T n b c → c < 65536
+second-fits ask = omega (arith, ask .second-in, size-most (ask .size))
 
 module _ (n m : ℕ) (T : List ℕ) (b c : ℕ) where
-  -- the queue has the first t places of the visit list
-  abbrev pub Put : List Entry → ℕ → Type 0
-  Put q t = (p : ℕ) → p < 682 → p < t → getD q p no-entry .bucket ≡ getD (vs n T b c) p 0
-
-  -- the search is at place v: no bucket before it has a damaged word or a free slot
+  -- the search is at position v
   pub record Visiting (queue : List Entry) (v : ℕ) : Type 0 where
+    pub asked : Asked four T n b c
     pub upto : v ≤ 682
-    pub long : length queue ≡ 682
-    pub put : Put queue (2 + 4 * v)
-    pub calm : (i : ℕ) → i < v → hurt n T b c m i ≡ false
-    pub full : (i : ℕ) → i < v → ¬ Free (four n) T (getD (vs n T b c) i 0)
+    pub queued : Queued n T b c queue (2 + 4 * v)
+    pub behind : Behind four n m T b c v
 
-  -- it visits the bucket x there
-  pub record AtVisit (queue : List Entry) (v x : ℕ) : Type 0 where
-    pub asked : Asked T n b c
-    pub so-far : Visiting queue v
-    pub early : v < 682
-    pub bucket : x ≡ getD queue v no-entry .bucket
-
-  -- and has judged its four words w
-  pub record Looked (queue : List Entry) (v x : ℕ) (w : List ℕ) (free j : ℕ) : Type 0 where
-    pub visit : AtVisit queue v x
-    pub words : w ≡ words-of T x
-    pub judged : Judging m w free j
-    pub all : 4 ≤ j
-
-  put-one : (q : List Entry) (t : ℕ) (y : Entry) → Put q t → length q ≡ 682 → t < 682 → y .bucket ≡ getD (vs n T b c) t 0 → Put (set q t y) (t + 1)
-  put-one q t y h l k e p g a =
-      dite (ℕ-discrete p t) (λ z. let inside : t < length q = omega arith in rw (z, getD-set-same) e) λ z.
-      rw getD-set-other (h p g (omega arith))
-
-  -- at the start the queue has the two homes
-  pub visiting : {x y : ℕ} → x ≡ b → y ≡ c
+  -- at the start
+  pub visit-homes : {x y : ℕ} → Asked four T n b c → x ≡ b → y ≡ c
       → Visiting (set (set (replicate 682 no-entry) 0 (record { bucket = x })) 1 (record { bucket = y })) 0
-  visiting {x} {y} ex ey =
-      let q : List Entry = replicate 682 no-entry in
-      let l : length q ≡ 682 = length-replicate 682 no-entry in
-      let q1 : List Entry = set q 0 (record { bucket = x }) in
-      let g : Put q1 1 = put-one q 0 (record { bucket = x }) (λ p h k. absurd (omega arith)) l (omega arith) (ex ∙ sym (home n T b c)) in
-      record {
-        upto = omega arith;
-        long = simp length-set l;
-        put = put-one q1 1 (record { bucket = y }) g (simp length-set l) (omega arith) (ey ∙ sym (next-home n T b c));
-        calm = λ i h. absurd (omega arith);
-        full = λ i h. absurd (omega arith);
-      }
+  visit-homes ask ex ey = record { asked = ask; upto = omega arith; queued = queued-homes n T b c ex ey; behind = behind-none four n m T b c }
 
   -- the whole list is visited
-  pub finish : {queue : List Entry} {v : ℕ} {r : Found} → Visiting queue v → 682 ≤ v → r ≡ no-room Nowhere → FoundIs n m T b c r
-  finish {queue} {v} st h er =
-      let q = first-free (four n) T (vs n T b c) in
-      let l : length (vs n T b c) ≡ 682 = whole n T b c in
-      let e : v ≡ q = first-same (four n) T (vs n T b c) v (omega (arith, st .upto)) (λ k. absurd (omega arith)) (st .full) in
-      let no : wounded n m T b c ≡ false = not-wounded n T b c m (λ i k a. st .calm i (omega arith)) in
-      let end : at-end n m T b c ≡ true = eq-eqb q (length (vs n T b c)) (omega (arith, st .upto)) in
-      rw er (record { ending-is = rw (no, end); count-is = rw (no, end); moves-are = rw (no, end); slot-is = rw (no, end) })
+  pub visit-none : {queue : List Entry} {v : ℕ} {r : Found} → Visiting queue v → 682 ≤ v → r ≡ no-room Nowhere → FoundIs four n m T b c r
+  visit-none st h e = rw e (stops-nowhere (st .behind) (omega (arith, st .upto, visits-long four n T b c)))
 
--- the visit to place v, whose bucket is x
+-- the visit to position v, whose bucket is x
+pub record AtVisit (n m : ℕ) (T : List ℕ) (b c : ℕ) (queue : List Entry) (v x : ℕ) : Type 0 where
+  pub so-far : Visiting n m T b c queue v
+  pub early : v < 682
+  pub bucket : x ≡ getD queue v no-entry .bucket
+
 module _ {n m : ℕ} {T : List ℕ} {b c : ℕ} {queue : List Entry} {v x : ℕ} (a : AtVisit n m T b c queue v x) where
-  place-is : (p : ℕ) → p ≤ v → getD queue p no-entry .bucket ≡ getD (vs n T b c) p 0
-  place-is p h = a .so-far .put p (omega (arith, a .early)) (omega arith)
+  abbrev S : Layout
+  S = layout-of four n
 
-  bucket-is : x ≡ getD (vs n T b c) v 0
-  bucket-is = a .bucket ∙ place-is v (omega arith)
+  abbrev Q : List ℕ
+  Q = visits-of four n T b c
+
+  in-queue : (p : ℕ) → p ≤ v → getD (buckets-of queue) p 0 ≡ getD Q p 0
+  in-queue p h = bucket-at queue p ∙ a .so-far .queued .put p (omega (arith, a .early)) (omega arith)
+
+  in-table : (p : ℕ) → p ≤ v → getD Q p 0 < n
+  in-table p h =
+      let ask = a .so-far .asked in
+      visit-in four n T b c (ask .size) (ask .first-in) (ask .second-in) p (omega (arith, a .early, visits-long four n T b c))
+
+  bucket-is : x ≡ getD Q v 0
+  bucket-is = a .bucket ∙ a .so-far .queued .put v (a .early) (omega arith)
 
   -- what the calls require
   pub may-lead : Size n × (x < n)
-  may-lead = (a .asked .size, rw bucket-is (visit-in n T b c (a .asked) v (a .early)))
+  may-lead = (a .so-far .asked .size, rw bucket-is (in-table v (omega arith)))
 
   pub words-in : x * 4 + 4 ≤ length T
-  words-in = omega (arith, may-lead .1, a .asked .long)
+  words-in = omega (arith, may-lead .1, a .so-far .asked .long)
 
-  -- the search doesn't stop before
-  not-before : v ≤ first-free (four n) T (vs n T b c)
-  not-before =
-      let q = first-free (four n) T (vs n T b c) in
-      let r = stop-is (four n) T (vs n T b c) in
-      dite (decLt q v)
-      (λ h.
-      let f = r .free (omega (arith, whole n T b c, a .early)) in
-      absurd (a .so-far .full q h (free-slot (four n) T (getD (vs n T b c) q 0), f, slot-is (four n) T (getD (vs n T b c) q 0) .free f)))
-      λ h. omega arith
+  pub back-from : {s : ℕ} → s < 4 → BackFrom T (buckets-of queue) v s
+  back-from h = record { early = a .early; slot = h; within = λ p l. omega (arith, in-queue p l, in-table p l, a .so-far .asked .long) }
 
-  word-is : {w : List ℕ} → w ≡ words-of T x → (j : ℕ) → j < 4 → getD w j 0 ≡ getD T (getD (vs n T b c) v 0 * 4 + j) 0
-  word-is e j h = ap (λ (l : List ℕ). getD l j 0) e ∙ word-at T x j h ∙ ap (λ (y : ℕ). getD T (y * 4 + j) 0) bucket-is
+  module _ {w : List ℕ} (words : w ≡ bucket-words 4 T x) where
+    words-here : w ≡ bucket-words 4 T (getD Q v 0)
+    words-here = words ∙ ap (bucket-words 4 T) bucket-is
 
-  -- one of its words is damaged
-  pub damaged-here : {w : List ℕ} {j : ℕ} {r : Found} → w ≡ words-of T x → j < 4 → damaged m (getD w j 0) ≡ true → r ≡ no-room Damaged
-      → FoundIs n m T b c r
-  damaged-here {w} {j} ew h e er =
-      let here : hurt n T b c m v ≡ true = damage-some m T (getD (vs n T b c) v 0) j h (rw (word-is ew j h) at e) in
-      let yes : wounded n m T b c ≡ true = is-wounded n T b c m v not-before (a .early) here in
-      rw er (record { ending-is = rw yes; count-is = rw yes; moves-are = rw yes; slot-is = rw yes })
+    in-list : v < length Q
+    in-list = omega (arith, a .early, visits-long four n T b c)
 
-  -- the moves back from its slot s
-  pub back-begins : {s to : ℕ} → to ≡ getD queue v no-entry .bucket * 4 + s → Back n T (vs n T b c) v s (replicate 4 no-move) 0 v to
-  back-begins {s} e = back-start n T (vs n T b c) v s (e ∙ ap (λ (y : ℕ). y * 4 + s) (place-is v (omega arith)))
+    -- one of its words is damaged
+    pub visit-damaged : {i : ℕ} {d : Bool} {r : Found} → i < 4 → d ≡ damaged m (getD w i 0) → d ≡ true → r ≡ no-room Damaged → FoundIs four n m T b c r
+    visit-damaged {i} h e t er = rw er (stops-damaged (a .so-far .behind) in-list (damage-one S T (getD Q v 0) words-here m i h (sym e ∙ t)))
 
-  pub source-in : {p s from : ℕ} → from ≡ getD queue p no-entry .bucket * 4 + s → p ≤ v → s < 4 → (from < length T) × (from < 8192)
-  source-in {p} e h k =
-      let inside : getD (vs n T b c) p 0 < n = visit-in n T b c (a .asked) p (omega (arith, a .early)) in
-      (omega (arith, e, place-is p h, a .asked .long), omega (arith, e, place-is p h, size-most (a .asked .size)))
+    module _ {i : ℕ} (d : NoneDamaged m w i) (all : 4 ≤ i) where
+      calm : damage-of four n T b c m v ≡ false
+      calm = damage-none S T (getD Q v 0) words-here m (λ j h. d .sound j (omega arith))
 
-  pub back-goes : {s count at to from : ℕ} {moves : List Tagged} → from ≡ getD queue ((at - 2) / 4) no-entry .bucket * 4 + (at - 2) % 4
-      → Back n T (vs n T b c) v s moves count at to → count < 4 → 2 ≤ at
-      → Back n T (vs n T b c) v s (set moves count (record { from = from; tag = getD T from 0 / 65536; to = to })) (count + 1) ((at - 2) / 4) from
-  back-goes {s} {count} {at} e k h l =
-      let low : (at - 2) / 4 ≤ v = omega (arith, k .under) in
-      back-step n T (vs n T b c) v s k h l (e ∙ ap (λ (y : ℕ). y * 4 + (at - 2) % 4) (place-is ((at - 2) / 4) low))
+      -- none is, and slot s is the first that is free
+      pub visit-room : {s : ℕ} {r : Found} → NoneFree w s → s < 4 → getD w s 0 ≡ 0 → ((k : ℕ) → r ≡ room-from four k T (buckets-of queue) v s)
+          → FoundIs four n m T b c r
+      visit-room {s} g h e er =
+          rw (er n ∙ room-same four n T (buckets-of queue) Q v s in-queue)
+          (stops-with-room (a .so-far .behind) in-list calm h (free-first S T (getD Q v 0) words-here h e (g .full)))
 
--- its four words are judged
-module _ {n m : ℕ} {T : List ℕ} {b c : ℕ} {queue : List Entry} {v x : ℕ} {w : List ℕ} {free j : ℕ} (a : Looked n m T b c queue v x w free j) where
-  word : (i : ℕ) → i < 4 → getD w i 0 ≡ getD T (getD (vs n T b c) v 0 * 4 + i) 0
-  word = word-is (a .visit) (a .words)
+      -- none is free: the search goes on
+      module _ {s : ℕ} (g : NoneFree w s) (last : 4 ≤ s) where
+        past : Behind four n m T b c (v + 1)
+        past = behind-more (a .so-far .behind) calm (free-none S T (getD Q v 0) words-here (λ j h. g .full j (omega arith)))
 
-  calm-here : hurt n T b c m v ≡ false
-  calm-here =
-      damage-none m T (getD (vs n T b c) v 0) λ i h. rw (word i h) at (a .judged .calm i (omega (arith, a .all)))
+        -- at the last level, with no bucket put into the queue
+        pub onward : 170 ≤ v → Visiting n m T b c queue (v + 1)
+        onward k =
+            let g = a .so-far .queued in
+            record {
+              asked = a .so-far .asked;
+              upto = omega (arith, a .early);
+              queued = record { long = g .long; put = λ p h l. g .put p h (omega arith) };
+              behind = past;
+            }
 
-  calm-so-far : (i : ℕ) → i < v + 1 → hurt n T b c m i ≡ false
-  calm-so-far i h = dite (ℕ-discrete i v) (λ e. rw e calm-here) λ ne. a .visit .so-far .calm i (omega arith)
-
-  slot-found : free ≡ free-slot (four n) T (getD (vs n T b c) v 0)
-  slot-found =
-      lowest-same (four n) T (getD (vs n T b c) v 0) free (a .judged .few) (λ h. rw (word free h) at (a .judged .vacant h)) λ i h.
-      let k : i < 4 = omega (arith, a .judged .few) in rw (word i k) at (a .judged .under i (omega (arith, a .all)) h)
-
-  -- one is free: the search stops, and the moves back are made out
-  module _ (h : free < 4) where
-    stops : v ≡ first-free (four n) T (vs n T b c)
-    stops =
-        first-same (four n) T (vs n T b c) v (omega (arith, whole n T b c, a .visit .early))
-        (λ k. (free, h, rw (word free h) at (a .judged .vacant h))) (a .visit .so-far .full)
-
-    slot-there : free ≡ free-slot (four n) T (getD (vs n T b c) (first-free (four n) T (vs n T b c)) 0)
-    slot-there = slot-found ∙ ap (λ p. free-slot (four n) T (getD (vs n T b c) p 0)) stops
-
-    plan-is : climb (four n) (vs n T b c) 2 4 v free ≡ search-moves (four n) T (b ∷ c ∷ []) 4
-    plan-is = ap₂ (climb (four n) (vs n T b c) 2 4) stops slot-there
-
-    start-is : getD (vs n T b c) v 0 * 4 + free ≡ stop-slot (four n) T (b ∷ c ∷ []) 4
-    start-is = ap₂ (λ p s. p * 4 + s) (ap (λ p. getD (vs n T b c) p 0) stops) slot-there
-
-    inside : at-end n m T b c ≡ false
-    inside =
-        ne-eqb (first-free (four n) T (vs n T b c)) (length (vs n T b c)) (λ e. omega (arith, whole n T b c, stops, a .visit .early))
-
-    pub room-here : {count at to : ℕ} {moves : List Tagged} → Back n T (vs n T b c) v free moves count at to → (4 ≤ count) ⊎ (at < 2)
-        → FoundIs n m T b c (record { ending = Room (v + 1); count = count; moves = moves; slot = to })
-    room-here k end =
-        let no : wounded n m T b c ≡ false = not-wounded n T b c m (λ i g l. calm-so-far i (omega (arith, stops))) in
-        rw (back-end n T (vs n T b c) v free k end)
-        (record {
-          ending-is = rw (no, inside) (ap (λ p. Room (p + 1)) stops);
-          count-is = rw (no, inside) (ap length plan-is);
-          moves-are = rw (no, inside) (ap (in-row T) plan-is);
-          slot-is = rw (no, inside) (ap₂ lands start-is plan-is);
-        })
-
-  -- none is free: the search goes on
-  module _ (h : 4 ≤ free) where
-    full-so-far : (i : ℕ) → i < v + 1 → ¬ Free (four n) T (getD (vs n T b c) i 0)
-    full-so-far i k =
-        dite (ℕ-discrete i v) (λ e. rw e (full (four n) T (getD (vs n T b c) v 0) (omega (arith, slot-found)))) λ ne.
-        a .visit .so-far .full i (omega arith)
-
-    -- at the last level, with no bucket put into the queue
-    pub onward : 170 ≤ v → Visiting n m T b c queue (v + 1)
-    onward k =
-        record {
-          upto = omega (arith, a .visit .early);
-          long = a .visit .so-far .long;
-          put = λ p g l. a .visit .so-far .put p g (omega arith);
-          calm = calm-so-far;
-          full = full-so-far;
-        }
-
-    -- before it, with the buckets that its four words lead to
-    abbrev Leads : ℕ → Entry → Type 0
-    Leads s y = y .bucket ≡ other-bucket n (tag (getD w s 0)) x
-
-    leads-to : v < 170 → (s : ℕ) → s < 4 → {y : Entry} → Leads s y → y .bucket ≡ getD (vs n T b c) (2 + 4 * v + s) 0
-    leads-to k s l e =
-        e ∙ ap₂ (λ u z. other-bucket n (tag u) z) (word s l) (bucket-is (a .visit)) ∙ sym (put-by n T b c v s k l)
-
-    pub pushed : v < 170 → {y z p q : Entry} → Leads 0 y → Leads 1 z → Leads 2 p → Leads 3 q
-        → Visiting n m T b c (set (set (set (set queue (2 + 4 * v) y) (2 + 4 * v + 1) z) (2 + 4 * v + 2) p) (2 + 4 * v + 3) q) (v + 1)
-    pushed k {y} {z} {p} {q} ly lz lp lq =
-        let at : ℕ = 2 + 4 * v in
-        let st = a .visit .so-far in
-        let e : at + 0 ≡ at = omega arith in
-        let q1 = set queue at y in
-        let q2 = set q1 (at + 1) z in
-        let q3 = set q2 (at + 2) p in
-        let put = put-one n m T b c in
-        let g1 = put queue at y (st .put) (st .long) (omega arith) (leads-to k 0 (omega arith) ly ∙ ap (λ i. getD (vs n T b c) i 0) e) in
-        let g2 = put q1 (at + 1) z g1 (simp length-set (st .long)) (omega arith) (leads-to k 1 (omega arith) lz) in
-        let g3 = put q2 (at + 2) p (λ i f l. g2 i f (omega arith)) (simp length-set (st .long)) (omega arith) (leads-to k 2 (omega arith) lp) in
-        let g4 = put q3 (at + 3) q (λ i f l. g3 i f (omega arith)) (simp length-set (st .long)) (omega arith) (leads-to k 3 (omega arith) lq) in
-        record {
-          upto = omega arith;
-          long = simp length-set (st .long);
-          put = λ i f l. g4 i f (omega arith);
-          calm = calm-so-far;
-          full = full-so-far;
-        }
+        -- before it, with the buckets that its four words lead to
+        pub pushed : v < 170 → {y₀ y₁ y₂ y₃ : Entry} → y₀ .bucket ≡ other-bucket n (tag (getD w 0 0)) x → y₁ .bucket ≡ other-bucket n (tag (getD w 1 0)) x
+            → y₂ .bucket ≡ other-bucket n (tag (getD w 2 0)) x → y₃ .bucket ≡ other-bucket n (tag (getD w 3 0)) x
+            → Visiting n m T b c (set (set (set (set queue (2 + 4 * v) y₀) (2 + 4 * v + 1) y₁) (2 + 4 * v + 2) y₂) (2 + 4 * v + 3) y₃) (v + 1)
+        pushed k l₀ l₁ l₂ l₃ =
+            record {
+              asked = a .so-far .asked;
+              upto = omega arith;
+              queued = queued-four n T b c (a .so-far .queued) k bucket-is words-here l₀ l₁ l₂ l₃;
+              behind = past;
+            }

@@ -1,1 +1,4 @@
-pub mod Entering
+pub mod Looks
+pub mod Enters
+pub mod Setting
+pub mod Decides

@@ -1,1 +1,1 @@
-pub mod Enter
+pub mod Entering

@@ -1,53 +1,108 @@
 // Set, whole and cut: an update of a held animal, or the moves of the search and a new entry.
 ghost use mathlib.Core.Path.{_≡_};
 ghost use mathlib.Core.List.{List};
-ghost use Prim.Native.Nat.{ℕ};
-ghost use mathlib.Core.Option.{some};
-ghost use Rattle.model.specs.Memory.{mem};
-ghost use Rattle.model.specs.Answers.{set-animal};
-ghost use Rattle.model.specs.Age.{stamp-of};
+ghost use Prim.Native.Nat.{ℕ, _^_};
+ghost use Rattle.model.specs.Memory.{mem, place};
+ghost use Rattle.model.specs.Shape.{Ways, four};
+ghost use Rattle.model.specs.Calling.{set-animal};
+ghost use Rattle.model.specs.Calls.{updated};
 ghost use Rattle.model.specs.Said.{said-setting};
-ghost use Rattle.writing.specs.Wrote.{CutAs, WholeAs};
-ghost use Rattle.setting.specs.Enter.{Does, entering, entering-new, Homed, Searched, updating};
+ghost use Rattle.model.specs.Promised.{CutAs, Does, WholeAs};
+ghost use Rattle.setting.specs.Entering.{Enterable, Homed, RoomIs, entering, entering-new};
 use hashing::Homes;
 use looking::Look;
+use model::Grant;
 use model::Setting;
+use paths::Ending;
+use paths::Found;
 use places::Vacancy;
-use searching::Ending;
-use searching::Found;
 
-// What the search found is carried out: the moves, then the new entry in the vacant place p.
-fn enter_found(
+// What set of an absent animal is to do: refuse, or enter it into the vacant place behind the moves that were found.
+pub enum Entering {
+    Refused(u32),
+    Enters { visits: usize },
+}
+
+pub struct Room {
+    pub told: Entering,
+    pub place: u32,
+    pub found: Found,
+}
+
+// The look: the lowest vacant place, then the search.
+fn room_for(slots: &[u32], counters: &[u32], items: &[u64], g: Grant, homes: Homes) -> Room
+    requires { ⌜ Homed four (mem (now slots) (now counters) (now items)) (g .animal) homes ⌝ }
+    ensures { λ r. ⌜ RoomIs four (mem (now (slots .entry)) (now (counters .entry)) (now (items .entry))) g homes r ⌝ }
+{
+    let m = items.len() / 4;
+    let n = (slots.len() / 4) as u32;
+    let vacancy = places::vacant_place(items, m);
+    match vacancy {
+        Vacancy::Full => {
+            let found = paths::nothing(Ending::Nowhere);
+            Room {
+                told: Entering::Refused(5),
+                place: 0,
+                found,
+            }
+        }
+        Vacancy::At(p) => {
+            let found = searching::search(slots, n, m as u32, homes.first, homes.second);
+            let ending = found.ending;
+            let place = p as u32;
+            match ending {
+                Ending::Damaged => Room {
+                    told: Entering::Refused(4),
+                    place,
+                    found,
+                },
+                Ending::Nowhere => Room {
+                    told: Entering::Refused(6),
+                    place,
+                    found,
+                },
+                Ending::Room { visits } => Room {
+                    told: Entering::Enters { visits },
+                    place,
+                    found,
+                },
+            }
+        }
+    }
+}
+
+// The do: the moves, then the new entry. It knows the ways by a shift only. Requires what the look has shown.
+fn enter_at(
     slots: &mut [u32],
     counters: &mut [u32],
     items: &mut [u64],
-    animal: u64,
-    permission: u32,
-    stamp: u64,
+    g: Grant,
     homes: Homes,
-    p: usize,
-    found: Found,
+    room: Room,
+    shift: u32,
     k: u64,
 ) -> Setting
-    requires { ⌜ Searched (mem (now slots) (now counters) (now items)) animal homes p found ⌝ }
-    ensures { λ r. ⌜ Does (entering (mem (now (slots .entry)) (now (counters .entry)) (now (items .entry))) animal permission stamp (some p)) k
+    requires { ⌜ Enterable (mem (now slots) (now counters) (now items)) homes room shift ⌝ }
+    ensures { λ r. ⌜ ((W : Ways) → W .ways ≡ 2 ^ shift
+        → Does (entering W (mem (now (slots .entry)) (now (counters .entry)) (now (items .entry))) g homes room) k
         (mem (now (slots .entry)) (now (counters .entry)) (now (items .entry)))
-        (mem (now (slots .exit)) (now (counters .exit)) (now (items .exit))) (said-setting r) ⌝ }
+        (mem (now (slots .exit)) (now (counters .exit)) (now (items .exit))) (said-setting r)) ⌝ }
 {
-    let ending = found.ending;
-    match ending {
-        Ending::Damaged => Setting::Refused(4),
-        Ending::Nowhere => Setting::Refused(6),
-        Ending::Room { visits } => {
-            let n = (slots.len() / 4) as u32;
+    let told = room.told;
+    match told {
+        Entering::Refused(n) => Setting::Refused(n),
+        Entering::Enters { visits } => {
+            let n = (slots.len() >> shift) as u32;
+            let found = room.found;
             let moves = found.moves;
             let count = found.count;
-            let left = moving::make_moves(slots, counters, n, moves, count, k);
-            let place = p as u32;
+            let left = moves::make_moves(slots, counters, n, shift, moves, count, k);
+            let place = room.place;
             let word = homes.tag * 65536 + place;
             let at = found.slot;
             let c = homes.counter as usize;
-            storing::enter_entry(
+            let stamp = ageing::stamp_for(g);
+            blocks::enter_entry(
                 slots,
                 counters,
                 items,
@@ -55,8 +110,8 @@ fn enter_found(
                 place,
                 at,
                 word,
-                animal,
-                permission,
+                g.animal,
+                g.permission,
                 stamp,
                 left,
             );
@@ -68,51 +123,22 @@ fn enter_found(
     }
 }
 
-// A new entry for an absent animal: the lowest vacant place, then the search.
+// A new entry for an absent animal.
 fn enter_new(
     slots: &mut [u32],
     counters: &mut [u32],
     items: &mut [u64],
-    animal: u64,
-    permission: u32,
-    stamp: u64,
+    g: Grant,
     homes: Homes,
     k: u64,
 ) -> Setting
-    requires { ⌜ Homed (mem (now slots) (now counters) (now items)) animal homes ⌝ }
-    ensures { λ r. ⌜ Does (entering-new (mem (now (slots .entry)) (now (counters .entry)) (now (items .entry))) animal permission stamp) k
+    requires { ⌜ Homed four (mem (now slots) (now counters) (now items)) (g .animal) homes ⌝ }
+    ensures { λ r. ⌜ Does (entering-new four (mem (now (slots .entry)) (now (counters .entry)) (now (items .entry))) g) k
         (mem (now (slots .entry)) (now (counters .entry)) (now (items .entry)))
         (mem (now (slots .exit)) (now (counters .exit)) (now (items .exit))) (said-setting r) ⌝ }
 {
-    let m = items.len() / 4;
-    let vacancy = places::vacant_place(items, m);
-    let Vacancy::At(p) = vacancy else {
-        return Setting::Refused(5);
-    };
-    let n = (slots.len() / 4) as u32;
-    let found = searching::search(slots, n, m as u32, homes.first, homes.second);
-    enter_found(
-        slots,
-        counters,
-        items,
-        animal,
-        permission,
-        stamp,
-        homes,
-        p,
-        found,
-        k,
-    )
-}
-
-// The stamp of a set: the minute of arrival, or the standing mark.
-fn stamp_for(minute: u64, standing: bool) -> u64
-    ensures { λ r. ⌜ r ≡ stamp-of minute standing ⌝ }
-{
-    if standing {
-        return 18446744073709551615;
-    }
-    minute
+    let room = room_for(slots, counters, items, g, homes);
+    enter_at(slots, counters, items, g, homes, room, 2, k)
 }
 
 // The update of a held animal: no bucket is visited and nothing is moved.
@@ -121,15 +147,15 @@ fn update_held(
     items: &mut [u64],
     homes: Homes,
     w: u32,
-    permission: u32,
-    stamp: u64,
+    g: Grant,
     k: u64,
 ) -> Setting
-    ensures { λ r. ⌜ ((s : List ℕ) → Does (updating (homes .counter) w permission stamp) k (mem s (now (counters .entry)) (now (items .entry)))
+    ensures { λ r. ⌜ ((s : List ℕ) → Does (updated (homes .counter) (place w) g) k (mem s (now (counters .entry)) (now (items .entry)))
         (mem s (now (counters .exit)) (now (items .exit))) (said-setting r)) ⌝ }
 {
     let c = homes.counter as usize;
-    storing::update_entry(counters, items, c, w % 65536, permission, stamp, k);
+    let stamp = ageing::stamp_for(g);
+    blocks::update_entry(counters, items, c, w % 65536, g.permission, stamp, k);
     Setting::Stored {
         visits: 0,
         moves: 0,
@@ -141,57 +167,44 @@ pub fn set_cut(
     slots: &mut [u32],
     counters: &mut [u32],
     items: &mut [u64],
-    animal: u64,
-    permission: u32,
-    minute: u64,
-    standing: bool,
+    g: Grant,
     k: u64,
 ) -> Setting
-    ensures { λ r. ⌜ CutAs (mem (now (slots .entry)) (now (counters .entry)) (now (items .entry))) (set-animal animal permission minute standing) k
+    ensures { λ r. ⌜ CutAs four (mem (now (slots .entry)) (now (counters .entry)) (now (items .entry))) (set-animal g) k
         (mem (now (slots .exit)) (now (counters .exit)) (now (items .exit))) (said-setting r) ⌝ }
 {
-    let late = minute == 18446744073709551615;
-    let no = looking::refused_early(slots.len(), counters.len(), items.len(), animal, late);
+    let bad = ageing::is_bad_grant(g);
+    let no = looking::refused_early(slots.len(), counters.len(), items.len(), g.animal, bad);
     if no != 0 {
         return Setting::Refused(no);
     }
-    let stamp = stamp_for(minute, standing);
-    let looked = looking::look_up(slots, counters, items, animal);
+    let looked = looking::look_up(slots, counters, items, g.animal);
     let look = looked.look;
     let homes = looked.homes;
     match look {
         Look::Refused(n) => Setting::Refused(n),
-        Look::Absent => enter_new(slots, counters, items, animal, permission, stamp, homes, k),
-        Look::At(w) => update_held(counters, items, homes, w, permission, stamp, k),
+        Look::Absent => enter_new(slots, counters, items, g, homes, k),
+        Look::At(w) => update_held(counters, items, homes, w, g, k),
     }
 }
 
 // Set. Beside its cut form and not by way of it: an update is then compiled in one piece, and takes half the time.
-pub fn set(
-    slots: &mut [u32],
-    counters: &mut [u32],
-    items: &mut [u64],
-    animal: u64,
-    permission: u32,
-    minute: u64,
-    standing: bool,
-) -> Setting
-    ensures { λ r. ⌜ WholeAs (mem (now (slots .entry)) (now (counters .entry)) (now (items .entry))) (set-animal animal permission minute standing)
+pub fn set(slots: &mut [u32], counters: &mut [u32], items: &mut [u64], g: Grant) -> Setting
+    ensures { λ r. ⌜ WholeAs four (mem (now (slots .entry)) (now (counters .entry)) (now (items .entry))) (set-animal g)
         (mem (now (slots .exit)) (now (counters .exit)) (now (items .exit))) (said-setting r) ⌝ }
 {
     let k = 18446744073709551615;
-    let late = minute == 18446744073709551615;
-    let no = looking::refused_early(slots.len(), counters.len(), items.len(), animal, late);
+    let bad = ageing::is_bad_grant(g);
+    let no = looking::refused_early(slots.len(), counters.len(), items.len(), g.animal, bad);
     if no != 0 {
         return Setting::Refused(no);
     }
-    let stamp = stamp_for(minute, standing);
-    let looked = looking::look_up(slots, counters, items, animal);
+    let looked = looking::look_up(slots, counters, items, g.animal);
     let look = looked.look;
     let homes = looked.homes;
     match look {
         Look::Refused(n) => Setting::Refused(n),
-        Look::Absent => enter_new(slots, counters, items, animal, permission, stamp, homes, k),
-        Look::At(w) => update_held(counters, items, homes, w, permission, stamp, k),
+        Look::Absent => enter_new(slots, counters, items, g, homes, k),
+        Look::At(w) => update_held(counters, items, homes, w, g, k),
     }
 }

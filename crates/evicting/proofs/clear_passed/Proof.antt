@@ -12,29 +12,11 @@ Inv-loop items₀ m count left h₀ rest₀ i₀ items h rest i = Clearing m cou
 abbrev μ-loop : tie.MeasureT-loop
 μ-loop items₀ m count left h₀ rest₀ i₀ items h rest i = count - i
 
-loop-holds : tie.Need-loop-holds Inv-loop μ-loop
-loop-holds c = search clear-first
-
 clear-one-requires : tie.Need-clear-one-requires Inv-loop μ-loop
 clear-one-requires c κs = omega arith
 
-step-requires : tie.Need-step-requires Inv-loop μ-loop
-step-requires c κs = search needs
-
-add-i : tie.Need-add-i Inv-loop μ-loop
-add-i c = search needs
-
-loop-less : tie.Need-loop-less Inv-loop μ-loop
-loop-less c = search needs
-
-loop-again : tie.Need-loop-again Inv-loop μ-loop
-loop-again c = search clear-next
-
 same-length : tie.Need-same-length Inv-loop μ-loop
 same-length c = c .before .loop .inv .long
-
-returns : tie.Need-returns Inv-loop μ-loop
-returns c = search clear-last
 
 pub clear-passed-spec : {M : Type 1} → statement M
 clear-passed-spec =
@@ -42,11 +24,11 @@ clear-passed-spec =
     (tie.spec
     Inv-loop
     μ-loop
-    loop-holds
+    (λ c. search clear-first)
     clear-one-requires
-    step-requires
-    add-i
-    loop-less
-    loop-again
+    (λ c κs. search needs)
+    (λ c. search needs)
+    (λ c. search needs)
+    (λ c. search clear-next)
     same-length
-    returns)
+    (λ c. search clear-last))

@@ -17,18 +17,6 @@ loop-holds : tie.Need-loop-holds Inv-loop μ-loop
 unfolding fnv hash
 loop-holds c = search needs
 
-cast-fnv-byte : tie.Need-cast-fnv-byte Inv-loop μ-loop
-cast-fnv-byte c = search needs
-
-fnv-byte-requires : tie.Need-fnv-byte-requires Inv-loop μ-loop
-fnv-byte-requires c κs = search needs
-
-add-i : tie.Need-add-i Inv-loop μ-loop
-add-i c = search needs
-
-loop-less : tie.Need-loop-less Inv-loop μ-loop
-loop-less c = search needs
-
 loop-again : tie.Need-loop-again Inv-loop μ-loop
 loop-again c =
     let at = c .before .before .loop in (
@@ -43,4 +31,4 @@ returns c = let at = c .before .loop in sym (no-byte (at .h) (at .rest) (at .i) 
 pub hash-of-spec : {M : Type 1} → statement M
 hash-of-spec =
     tie.close
-    (tie.spec Inv-loop μ-loop loop-holds cast-fnv-byte fnv-byte-requires add-i loop-less loop-again returns)
+    (tie.spec Inv-loop μ-loop loop-holds (λ c. search needs) (λ c κs. search needs) (λ c. search needs) (λ c. search needs) loop-again returns)

@@ -2,7 +2,6 @@
 use native.Mathlib.Omega.{arith}
 use lib.Bits.{and-mask}
 use Rattle.model.proofs.Hash.{size-pos}
-use borrow.Author.Needs.{needs}
 use Rattle.hashing.proofs.low_part.Statement.{statement}
 use Rattle.hashing.proofs.low_part.Tie as tie
 

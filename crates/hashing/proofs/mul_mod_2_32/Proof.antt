@@ -7,11 +7,5 @@ use Rattle.hashing.proofs.mul_mod_2_32.Tie as tie
 mul-result : tie.Need-mul-result
 mul-result c = record { fits = product-fits 32 (search needs) (search needs) }
 
-cast-result : tie.Need-cast-result
-cast-result c = search needs
-
-returns : tie.Need-returns
-returns c = search needs
-
 pub mul-mod-2-32-spec : {M : Type 1} → statement M
-mul-mod-2-32-spec = tie.close (tie.spec mul-result cast-result returns)
+mul-mod-2-32-spec = tie.close (tie.spec mul-result (λ c. search needs) (λ c. search needs))

@@ -5,9 +5,6 @@ use borrow.Author.Needs.{needs}
 use Rattle.hashing.proofs.odd.Statement.{statement}
 use Rattle.hashing.proofs.odd.Tie as tie
 
-add-result : tie.Need-add-result
-add-result c = search needs
-
 returns : tie.Need-returns
 unfolding odd-up
 returns c = rw (eq-eqb _ _ (c .if1 .taken))
@@ -17,4 +14,4 @@ unfolding odd-up
 returns-2 c = rw (ne-eqb _ _ (c .if1 .left))
 
 pub odd-spec : {M : Type 1} → statement M
-odd-spec = tie.close (tie.spec add-result returns returns-2)
+odd-spec = tie.close (tie.spec (λ c. search needs) returns returns-2)

@@ -4,12 +4,9 @@ use borrow.Author.Needs.{needs}
 use Rattle.hashing.proofs.other_of.Statement.{statement}
 use Rattle.hashing.proofs.other_of.Tie as tie
 
-spread-of-requires : tie.Need-spread-of-requires
-spread-of-requires c κs = search needs
-
 returns : tie.Need-returns
 unfolding other-bucket
 returns c = rw (c .spread-of .ensures)
 
 pub other-of-spec : {M : Type 1} → statement M
-other-of-spec = tie.close (tie.spec spread-of-requires returns)
+other-of-spec = tie.close (tie.spec (λ c κs. search needs) returns)

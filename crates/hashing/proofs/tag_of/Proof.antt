@@ -2,7 +2,6 @@
 use native.Mathlib.Omega.{arith}
 use borrow.Author.Tests.{eq-eqb, ne-eqb}
 use Rattle.model.specs.Hash.{tag-from}
-use borrow.Author.Needs.{needs}
 use Rattle.hashing.proofs.tag_of.Statement.{statement}
 use Rattle.hashing.proofs.tag_of.Tie as tie
 

@@ -15,23 +15,8 @@ abbrev μ-loop : tie.MeasureT-loop
 loop-holds : tie.Need-loop-holds Inv-loop μ-loop
 loop-holds c = count-first _ _
 
-one-if-live-requires : tie.Need-one-if-live-requires Inv-loop μ-loop
-one-if-live-requires c κs = search needs
-
 add-n : tie.Need-add-n Inv-loop μ-loop
 add-n c = omega (arith, count-few (c .before .before .loop .inv) (c .one-if-live .ensures))
-
-add-p : tie.Need-add-p Inv-loop μ-loop
-add-p c = search needs
-
-loop-less : tie.Need-loop-less Inv-loop μ-loop
-loop-less c = search needs
-
-loop-again : tie.Need-loop-again Inv-loop μ-loop
-loop-again c = search count-more
-
-returns : tie.Need-returns Inv-loop μ-loop
-returns c = search count-done
 
 pub count-live-spec : {M : Type 1} → statement M
 count-live-spec =
@@ -40,9 +25,9 @@ count-live-spec =
     Inv-loop
     μ-loop
     loop-holds
-    one-if-live-requires
+    (λ c κs. search needs)
     add-n
-    add-p
-    loop-less
-    loop-again
-    returns)
+    (λ c. search needs)
+    (λ c. search needs)
+    (λ c. search count-more)
+    (λ c. search count-done))

@@ -11,26 +11,8 @@ Inv-loop items m buffer₀ at₀ p₀ buffer at p = Putting items m buffer₀ bu
 abbrev μ-loop : tie.MeasureT-loop
 μ-loop items m buffer₀ at₀ p₀ buffer at p = m - p
 
-loop-holds : tie.Need-loop-holds Inv-loop μ-loop
-loop-holds c = search putting-first
-
 put-place-requires : tie.Need-put-place-requires Inv-loop μ-loop
 put-place-requires c κs = (search needs, search putting-room)
-
-add-p : tie.Need-add-p Inv-loop μ-loop
-add-p c = search needs
-
-loop-less : tie.Need-loop-less Inv-loop μ-loop
-loop-less c = search needs
-
-loop-again : tie.Need-loop-again Inv-loop μ-loop
-loop-again c = search putting-more
-
-same-length : tie.Need-same-length Inv-loop μ-loop
-same-length c = search needs
-
-returns : tie.Need-returns Inv-loop μ-loop
-returns c = search putting-done
 
 pub put-places-spec : {M : Type 1} → statement M
 put-places-spec =
@@ -38,10 +20,10 @@ put-places-spec =
     (tie.spec
     Inv-loop
     μ-loop
-    loop-holds
+    (λ c. search putting-first)
     put-place-requires
-    add-p
-    loop-less
-    loop-again
-    same-length
-    returns)
+    (λ c. search needs)
+    (λ c. search needs)
+    (λ c. search putting-more)
+    (λ c. search needs)
+    (λ c. search putting-done))

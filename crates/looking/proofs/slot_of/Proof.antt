@@ -1,15 +1,9 @@
 -- `looking::slot_of` meets its contract. Assumes nothing.
 use lib.ListN.{length}
-use Rattle.looking.proofs.Looking.{slot-nowhere, slot-somewhere}
+use Rattle.looking.proofs.SlotOf.{slot-nowhere, slot-somewhere}
 use borrow.Author.Needs.{needs}
 use Rattle.looking.proofs.slot_of.Statement.{statement}
 use Rattle.looking.proofs.slot_of.Tie as tie
-
-slot-among-requires : tie.Need-slot-among-requires
-slot-among-requires c κs = search needs
-
-slot-among-requires-2 : tie.Need-slot-among-requires-2
-slot-among-requires-2 c κs = search needs
 
 returns : tie.Need-returns
 returns c =
@@ -24,4 +18,4 @@ returns-2 c =
     (c .before .before .slot-among .ensures) (c .before .slot-among2 .ensures) (c .if1 .left)
 
 pub slot-of-spec : {M : Type 1} → statement M
-slot-of-spec = tie.close (tie.spec slot-among-requires slot-among-requires-2 returns returns-2)
+slot-of-spec = tie.close (tie.spec (λ c κs. search needs) (λ c κs. search needs) returns returns-2)

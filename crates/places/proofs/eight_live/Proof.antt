@@ -4,78 +4,6 @@ use borrow.Author.Needs.{needs}
 use Rattle.places.proofs.eight_live.Statement.{statement}
 use Rattle.places.proofs.eight_live.Tie as tie
 
-mul-at : tie.Need-mul-at
-mul-at c = search needs
-
-mul-result : tie.Need-mul-result
-mul-result c = search needs
-
-shared-slice-read-result : tie.Need-shared-slice-read-result
-shared-slice-read-result c = search needs
-
-add-result : tie.Need-add-result
-add-result c = search needs
-
-mul-result-2 : tie.Need-mul-result-2
-mul-result-2 c = search needs
-
-shared-slice-read-result-2 : tie.Need-shared-slice-read-result-2
-shared-slice-read-result-2 c = search needs
-
-add-result-2 : tie.Need-add-result-2
-add-result-2 c = search needs
-
-mul-result-3 : tie.Need-mul-result-3
-mul-result-3 c = search needs
-
-shared-slice-read-result-3 : tie.Need-shared-slice-read-result-3
-shared-slice-read-result-3 c = search needs
-
-add-result-3 : tie.Need-add-result-3
-add-result-3 c = search needs
-
-mul-result-4 : tie.Need-mul-result-4
-mul-result-4 c = search needs
-
-shared-slice-read-result-4 : tie.Need-shared-slice-read-result-4
-shared-slice-read-result-4 c = search needs
-
-add-result-4 : tie.Need-add-result-4
-add-result-4 c = search needs
-
-mul-result-5 : tie.Need-mul-result-5
-mul-result-5 c = search needs
-
-shared-slice-read-result-5 : tie.Need-shared-slice-read-result-5
-shared-slice-read-result-5 c = search needs
-
-add-result-5 : tie.Need-add-result-5
-add-result-5 c = search needs
-
-mul-result-6 : tie.Need-mul-result-6
-mul-result-6 c = search needs
-
-shared-slice-read-result-6 : tie.Need-shared-slice-read-result-6
-shared-slice-read-result-6 c = search needs
-
-add-result-6 : tie.Need-add-result-6
-add-result-6 c = search needs
-
-mul-result-7 : tie.Need-mul-result-7
-mul-result-7 c = search needs
-
-shared-slice-read-result-7 : tie.Need-shared-slice-read-result-7
-shared-slice-read-result-7 c = search needs
-
-add-result-7 : tie.Need-add-result-7
-add-result-7 c = search needs
-
-mul-result-8 : tie.Need-mul-result-8
-mul-result-8 c = search needs
-
-shared-slice-read-result-8 : tie.Need-shared-slice-read-result-8
-shared-slice-read-result-8 c = search needs
-
 returns : tie.Need-returns
 returns c = eight-tests _ _
 
@@ -83,28 +11,28 @@ pub eight-live-spec : {M : Type 1} → statement M
 eight-live-spec =
     tie.close
     (tie.spec
-    mul-at
-    mul-result
-    shared-slice-read-result
-    add-result
-    mul-result-2
-    shared-slice-read-result-2
-    add-result-2
-    mul-result-3
-    shared-slice-read-result-3
-    add-result-3
-    mul-result-4
-    shared-slice-read-result-4
-    add-result-4
-    mul-result-5
-    shared-slice-read-result-5
-    add-result-5
-    mul-result-6
-    shared-slice-read-result-6
-    add-result-6
-    mul-result-7
-    shared-slice-read-result-7
-    add-result-7
-    mul-result-8
-    shared-slice-read-result-8
+    (λ c. search needs)
+    (λ c. search needs)
+    (λ c. search needs)
+    (λ c. search needs)
+    (λ c. search needs)
+    (λ c. search needs)
+    (λ c. search needs)
+    (λ c. search needs)
+    (λ c. search needs)
+    (λ c. search needs)
+    (λ c. search needs)
+    (λ c. search needs)
+    (λ c. search needs)
+    (λ c. search needs)
+    (λ c. search needs)
+    (λ c. search needs)
+    (λ c. search needs)
+    (λ c. search needs)
+    (λ c. search needs)
+    (λ c. search needs)
+    (λ c. search needs)
+    (λ c. search needs)
+    (λ c. search needs)
+    (λ c. search needs)
     returns)

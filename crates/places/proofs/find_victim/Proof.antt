@@ -12,47 +12,8 @@ Inv-loop items m h₀ looked₀ h looked = Looking m items (h₀ .at) (h .at) lo
 abbrev μ-loop : tie.MeasureT-loop
 μ-loop items m h₀ looked₀ h looked = 2 * m - looked
 
-loop-holds : tie.Need-loop-holds Inv-loop μ-loop
-loop-holds c = search look-first
-
-mul-loop : tie.Need-mul-loop Inv-loop μ-loop
-mul-loop c = search needs
-
-mul-animal : tie.Need-mul-animal Inv-loop μ-loop
-mul-animal c = search needs
-
-mul-animal-2 : tie.Need-mul-animal-2 Inv-loop μ-loop
-mul-animal-2 c = search needs
-
-shared-slice-read-animal : tie.Need-shared-slice-read-animal Inv-loop μ-loop
-shared-slice-read-animal c = search needs
-
-mul-recent : tie.Need-mul-recent Inv-loop μ-loop
-mul-recent c = search needs
-
-add-recent : tie.Need-add-recent Inv-loop μ-loop
-add-recent c = search needs
-
-mul-recent-2 : tie.Need-mul-recent-2 Inv-loop μ-loop
-mul-recent-2 c = search needs
-
-shared-slice-read-recent : tie.Need-shared-slice-read-recent Inv-loop μ-loop
-shared-slice-read-recent c = search needs
-
-add-t20 : tie.Need-add-t20 Inv-loop μ-loop
-add-t20 c = search needs
-
 returns : tie.Need-returns Inv-loop μ-loop
 returns c = by-taken (search) (omega arith) (search)
-
-step-requires : tie.Need-step-requires Inv-loop μ-loop
-step-requires c κs = search needs
-
-add-looked : tie.Need-add-looked Inv-loop μ-loop
-add-looked c = search needs
-
-loop-less : tie.Need-loop-less Inv-loop μ-loop
-loop-less c = search needs
 
 loop-again : tie.Need-loop-again Inv-loop μ-loop
 loop-again c = by-passed (c .before .before .before .before .before .loop .inv) (omega arith) (search) (search)
@@ -66,19 +27,19 @@ find-victim-spec =
     (tie.spec
     Inv-loop
     μ-loop
-    loop-holds
-    mul-loop
-    mul-animal
-    mul-animal-2
-    shared-slice-read-animal
-    mul-recent
-    add-recent
-    mul-recent-2
-    shared-slice-read-recent
-    add-t20
+    (λ c. search look-first)
+    (λ c. search needs)
+    (λ c. search needs)
+    (λ c. search needs)
+    (λ c. search needs)
+    (λ c. search needs)
+    (λ c. search needs)
+    (λ c. search needs)
+    (λ c. search needs)
+    (λ c. search needs)
     returns
-    step-requires
-    add-looked
-    loop-less
+    (λ c κs. search needs)
+    (λ c. search needs)
+    (λ c. search needs)
     loop-again
     returns-2)

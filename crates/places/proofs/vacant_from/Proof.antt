@@ -11,45 +11,18 @@ Inv-loop items m p q₀ q = NoneVacant m items p q
 abbrev μ-loop : tie.MeasureT-loop
 μ-loop items m p q₀ q = m - q
 
-loop-holds : tie.Need-loop-holds Inv-loop μ-loop
-loop-holds c = search none-vacant-yet
-
-mul-if1 : tie.Need-mul-if1 Inv-loop μ-loop
-mul-if1 c = search needs
-
-mul-if1-2 : tie.Need-mul-if1-2 Inv-loop μ-loop
-mul-if1-2 c = search needs
-
-shared-slice-read-if1 : tie.Need-shared-slice-read-if1 Inv-loop μ-loop
-shared-slice-read-if1 c = search needs
-
-returns : tie.Need-returns Inv-loop μ-loop
-returns c = search by-vacant
-
-add-q : tie.Need-add-q Inv-loop μ-loop
-add-q c = search needs
-
-loop-less : tie.Need-loop-less Inv-loop μ-loop
-loop-less c = search needs
-
-loop-again : tie.Need-loop-again Inv-loop μ-loop
-loop-again c = search by-live
-
-returns-2 : tie.Need-returns-2 Inv-loop μ-loop
-returns-2 c = search by-none-vacant
-
 pub vacant-from-spec : {M : Type 1} → statement M
 vacant-from-spec =
     tie.close
     (tie.spec
     Inv-loop
     μ-loop
-    loop-holds
-    mul-if1
-    mul-if1-2
-    shared-slice-read-if1
-    returns
-    add-q
-    loop-less
-    loop-again
-    returns-2)
+    (λ c. search none-vacant-yet)
+    (λ c. search needs)
+    (λ c. search needs)
+    (λ c. search needs)
+    (λ c. search by-vacant)
+    (λ c. search needs)
+    (λ c. search needs)
+    (λ c. search by-live)
+    (λ c. search by-none-vacant))

@@ -1,61 +1,26 @@
--- `reading::read_good` meets its contract: one law a way out. Assumes nothing.
-use native.Mathlib.Omega.{arith}
-use Rattle.model.specs.Memory.{mem}
-use Rattle.looking.proofs.Asked.{small}
-use Rattle.reading.proofs.Reading.{read-busy, read-hurt, read-absent, read-held}
+-- `reading::read_good` meets its contract. Assumes nothing.
 use borrow.Author.Needs.{needs}
 use Rattle.reading.proofs.read_good.Statement.{statement}
 use Rattle.reading.proofs.read_good.Tie as tie
-
-homes-in-requires : tie.Need-homes-in-requires
-homes-in-requires c κs = search needs
-
-is-odd-requires : tie.Need-is-odd-requires
-is-odd-requires c κs = search needs
-
-returns : tie.Need-returns
-returns c = search read-busy
-
-home-words-of-requires : tie.Need-home-words-of-requires
-home-words-of-requires c κs = search needs
+use Rattle.reading.proofs.Reading.{read-busy, read-damaged, read-absent, read-held}
+use Rattle.looking.proofs.HomesLie.{places-fit}
 
 cast-m : tie.Need-cast-m
-cast-m c = let s = c .before .before .before .before .before .before .before in record { fits = omega (arith, small (mem (s .args .slots .now) (s .args .counters .now) (s .args .items .now)) (s .pre .lengths) .places-small) }
-
-any-damaged-requires : tie.Need-any-damaged-requires
-any-damaged-requires c κs = search needs
-
-returns-2 : tie.Need-returns-2
-returns-2 c = search read-hurt
-
-sum-with-tag-requires : tie.Need-sum-with-tag-requires
-sum-with-tag-requires c κs = search needs
-
-hit-word-requires : tie.Need-hit-word-requires
-hit-word-requires c κs = search needs
-
-returns-3 : tie.Need-returns-3
-returns-3 c = search read-absent
-
-judged-at-requires : tie.Need-judged-at-requires
-judged-at-requires c κs = search needs
-
-returns-4 : tie.Need-returns-4
-returns-4 c = search read-held
+cast-m c = record { fits = search places-fit }
 
 pub read-good-spec : {M : Type 1} → statement M
 read-good-spec =
     tie.close
     (tie.spec
-    homes-in-requires
-    is-odd-requires
-    returns
-    home-words-of-requires
+    (λ c κs. search needs)
+    (λ c κs. search needs)
+    (λ c. search read-busy)
+    (λ c κs. search needs)
     cast-m
-    any-damaged-requires
-    returns-2
-    sum-with-tag-requires
-    hit-word-requires
-    returns-3
-    judged-at-requires
-    returns-4)
+    (λ c κs. search needs)
+    (λ c. search read-damaged)
+    (λ c κs. search needs)
+    (λ c κs. search needs)
+    (λ c. search read-absent)
+    (λ c κs. search needs)
+    (λ c. search read-held))

@@ -1,24 +1,13 @@
 -- `setting::update_held` meets its contract. Assumes nothing.
-use Rattle.setting.proofs.Entering.{update-made}
 use borrow.Author.Needs.{needs}
 use Rattle.setting.proofs.update_held.Statement.{statement}
 use Rattle.setting.proofs.update_held.Tie as tie
-
-cast-c : tie.Need-cast-c
-cast-c c = search needs
-
-update-entry-requires : tie.Need-update-entry-requires
-update-entry-requires c κs = search needs
-
-same-length : tie.Need-same-length
-same-length c = search needs
-
-same-length-2 : tie.Need-same-length-2
-same-length-2 c = search needs
+use Rattle.setting.proofs.Enters.{update-made}
 
 returns : tie.Need-returns
-returns c = λ s. update-made _ _ _ _ (c .before .before .before .before .update-entry .ensures s)
+returns c = let s = c .before .before .before .before .before .before .before .before .before .before .before in update-made (s .args .homes .counter) (s .args .w) (s .args .g) (c .before .before .before .before .before .before .before .stamp-for .ensures) (c .before .before .before .before .update-entry .ensures)
 
 pub update-held-spec : {M : Type 1} → statement M
 update-held-spec =
-    tie.close (tie.spec cast-c update-entry-requires same-length same-length-2 returns)
+    tie.close
+    (tie.spec (λ c. search needs) (λ c κs. search needs) (λ c κs. search needs) (λ c. search needs) (λ c. search needs) returns)

@@ -1,0 +1,71 @@
+// The age of a permission: what is said of a stamp at a minute, under a limit; and the minute that a set brings.
+ghost use mathlib.Core.Path.{_≡_};
+ghost use Rattle.model.specs.Age.{verdict, bad-time, bad-grant, stamp-of};
+ghost use Rattle.model.specs.Answers.{says-fresh};
+ghost use Rattle.model.specs.Said.{said-reading};
+use model::Grant;
+use model::Reading;
+
+// The limit or the minute is out of range.
+pub fn is_bad_time(limit: u64, minute: u64) -> bool
+    ensures { λ r. ⌜ r ≡ bad-time limit minute ⌝ }
+{
+    (10080 < limit) | (minute == 18446744073709551615)
+}
+
+// What is said of a permission and its stamp.
+pub fn judged(permission: u64, stamp: u64, limit: u64, minute: u64) -> Reading
+    ensures { λ r. ⌜ said-reading r ≡ verdict limit minute permission stamp ⌝ }
+{
+    let told = (permission % 4294967296) as u32;
+    if stamp == 18446744073709551615 {
+        return Reading::Fresh {
+            permission: told,
+            age: 0,
+        };
+    }
+    if minute < stamp {
+        return Reading::Ahead;
+    }
+    let age = minute - stamp;
+    if age <= limit {
+        return Reading::Fresh {
+            permission: told,
+            age,
+        };
+    }
+    Reading::Old { age }
+}
+
+// The answer is fresh: serve marks by what it says.
+pub fn is_fresh(told: Reading) -> bool
+    ensures { λ r. ⌜ r ≡ says-fresh (said-reading told) ⌝ }
+{
+    match told {
+        Reading::Fresh {
+            permission: _,
+            age: _,
+        } => true,
+        Reading::Absent => false,
+        Reading::Old { age: _ } => false,
+        Reading::Ahead => false,
+        Reading::Refused(_) => false,
+    }
+}
+
+// The minute of a set is out of range.
+pub fn is_bad_grant(g: Grant) -> bool
+    ensures { λ r. ⌜ r ≡ bad-grant g ⌝ }
+{
+    g.minute == 18446744073709551615
+}
+
+// The stamp of a set: the minute of arrival, or the standing mark.
+pub fn stamp_for(g: Grant) -> u64
+    ensures { λ r. ⌜ r ≡ stamp-of g ⌝ }
+{
+    if g.standing {
+        return 18446744073709551615;
+    }
+    g.minute
+}

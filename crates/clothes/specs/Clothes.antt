@@ -1,0 +1,43 @@
+-- The C clothes of an answer: document 01's number and values of it, as the fields of a reply. Assumes nothing.
+use Prim.Native.Nat.{ℕ}
+use Rattle.model.specs.Choice.{choose}
+use Rattle.model.specs.Answers.{Answer, hand-back, is, paper, value}
+use Rattle.clothes.specs.declared.BoughladderReading.{BoughladderReading}
+use Rattle.clothes.specs.declared.BoughladderFinding.{BoughladderFinding}
+use Rattle.clothes.specs.declared.BoughladderSetting.{BoughladderSetting}
+use Rattle.clothes.specs.declared.BoughladderEvicting.{BoughladderEvicting}
+use Rattle.clothes.specs.declared.BoughladderListing.{BoughladderListing}
+
+-- the refusal number, 0 for success; and value i: value 0 says which success it is, those after it what it tells; 0 where there is none
+abbrev pub number : Answer → ℕ
+number a = paper a .number
+
+-- the permission and the age that a reading tells: 0 where it tells none
+abbrev pub permission-told : Answer → ℕ
+permission-told a = choose (is 1 a) (value a 1) 0
+
+abbrev pub age-told : Answer → ℕ
+age-told a = choose (is 1 a) (value a 2) (choose (is 2 a) (value a 1) 0)
+
+-- read and serve
+abbrev pub reading-clothes : Answer → BoughladderReading
+reading-clothes a = record { refusal = number a; kind = value a 0; permission = permission-told a; age = age-told a }
+
+-- find
+abbrev pub finding-clothes : Answer → BoughladderFinding
+finding-clothes a = record { refusal = number a; kind = value a 0; place = value a 1 }
+
+-- set
+abbrev pub setting-clothes : Answer → BoughladderSetting
+setting-clothes a = record { refusal = number a; visits = value a 1; moves = value a 2 }
+
+-- evict, with the hand h that comes back; and with the hand that was passed in
+abbrev pub turned-clothes : ℕ → Answer → BoughladderEvicting
+turned-clothes h a = record { refusal = number a; victim = value a 1; looked = value a 2; hand = h }
+
+abbrev pub evicting-clothes : ℕ → Answer → BoughladderEvicting
+evicting-clothes hand a = turned-clothes (hand-back hand a) a
+
+-- the list
+abbrev pub listing-clothes : Answer → BoughladderListing
+listing-clothes a = record { refusal = number a; count = value a 1 }

@@ -1,0 +1,183 @@
+// The C clothes of each answer: document 01's number and values of it, as the fields of a reply.
+ghost use mathlib.Core.Path.{_≡_};
+ghost use mathlib.Core.List.{List};
+ghost use Prim.Native.Nat.{ℕ, _<_};
+ghost use Rattle.model.specs.Said.{said-reading, said-finding, said-setting, said-deleting, said-evicting, said-listing, said-starting};
+ghost use Rattle.clothes.specs.Clothes.{number, reading-clothes, finding-clothes, setting-clothes, turned-clothes, listing-clothes};
+use model::Deleting;
+use model::Evicting;
+use model::Finding;
+use model::Listing;
+use model::Reading;
+use model::Setting;
+use model::Starting;
+
+// The replies. In each, `refusal` is document 01's number, 0 for success; what a call does not tell is 0.
+
+// Read and serve, in two registers. The kind is 0 absent, 1 fresh, 2 old, 3 ahead.
+#[repr(C)]
+pub struct BoughladderReading {
+    pub refusal: u16,
+    pub kind: u16,
+    pub permission: u32,
+    pub age: u64,
+}
+
+// Find. The kind is 0 absent, 9 at a place.
+#[repr(C)]
+pub struct BoughladderFinding {
+    pub refusal: u32,
+    pub kind: u32,
+    pub place: usize,
+}
+
+#[repr(C)]
+pub struct BoughladderSetting {
+    pub refusal: u32,
+    pub visits: usize,
+    pub moves: usize,
+}
+
+// The hand is the one to pass next: on a refusal, the one that was passed.
+#[repr(C)]
+pub struct BoughladderEvicting {
+    pub refusal: u32,
+    pub victim: u64,
+    pub looked: usize,
+    pub hand: usize,
+}
+
+#[repr(C)]
+pub struct BoughladderListing {
+    pub refusal: u32,
+    pub count: usize,
+}
+
+// Requires a refusal number that fits 16 bits; document 01 has none larger.
+pub fn dress_reading(told: Reading) -> BoughladderReading
+    requires { ⌜ number (said-reading told) < 65536 ⌝ }
+    ensures { λ r. ⌜ r ≡ reading-clothes (said-reading told) ⌝ }
+{
+    match told {
+        Reading::Absent => BoughladderReading {
+            refusal: 0,
+            kind: 0,
+            permission: 0,
+            age: 0,
+        },
+        Reading::Fresh { permission, age } => BoughladderReading {
+            refusal: 0,
+            kind: 1,
+            permission,
+            age,
+        },
+        Reading::Old { age } => BoughladderReading {
+            refusal: 0,
+            kind: 2,
+            permission: 0,
+            age,
+        },
+        Reading::Ahead => BoughladderReading {
+            refusal: 0,
+            kind: 3,
+            permission: 0,
+            age: 0,
+        },
+        Reading::Refused(n) => BoughladderReading {
+            refusal: n as u16,
+            kind: 0,
+            permission: 0,
+            age: 0,
+        },
+    }
+}
+
+pub fn dress_finding(told: Finding) -> BoughladderFinding
+    ensures { λ r. ⌜ r ≡ finding-clothes (said-finding told) ⌝ }
+{
+    match told {
+        Finding::Absent => BoughladderFinding {
+            refusal: 0,
+            kind: 0,
+            place: 0,
+        },
+        Finding::At(place) => BoughladderFinding {
+            refusal: 0,
+            kind: 9,
+            place,
+        },
+        Finding::Refused(n) => BoughladderFinding {
+            refusal: n,
+            kind: 0,
+            place: 0,
+        },
+    }
+}
+
+pub fn dress_setting(told: Setting) -> BoughladderSetting
+    ensures { λ r. ⌜ r ≡ setting-clothes (said-setting told) ⌝ }
+{
+    match told {
+        Setting::Stored { visits, moves } => BoughladderSetting {
+            refusal: 0,
+            visits,
+            moves,
+        },
+        Setting::Refused(n) => BoughladderSetting {
+            refusal: n,
+            visits: 0,
+            moves: 0,
+        },
+    }
+}
+
+pub fn dress_deleting(told: Deleting) -> u32
+    ensures { λ r. ⌜ r ≡ number (said-deleting told) ⌝ }
+{
+    match told {
+        Deleting::Deleted => 0,
+        Deleting::Refused(n) => n,
+    }
+}
+
+pub fn dress_starting(told: Starting) -> u32
+    ensures { λ r. ⌜ r ≡ number (said-starting told) ⌝ }
+{
+    match told {
+        Starting::Started => 0,
+        Starting::Refused(n) => n,
+    }
+}
+
+// With the hand that came back.
+pub fn dress_evicting(told: Evicting, hand: usize) -> BoughladderEvicting
+    ensures { λ r. ⌜ r ≡ turned-clothes hand (said-evicting told hand) ⌝ }
+{
+    match told {
+        Evicting::Evicted { victim, looked } => BoughladderEvicting {
+            refusal: 0,
+            victim,
+            looked,
+            hand,
+        },
+        Evicting::Refused(n) => BoughladderEvicting {
+            refusal: n,
+            victim: 0,
+            looked: 0,
+            hand,
+        },
+    }
+}
+
+// Whatever the buffer holds.
+pub fn dress_listing(told: Listing) -> BoughladderListing
+    ensures { λ r. ⌜ ((buffer : List ℕ) → r ≡ listing-clothes (said-listing told buffer)) ⌝ }
+{
+    match told {
+        Listing::Listed(count) => BoughladderListing { refusal: 0, count },
+        Listing::Refused(n) => BoughladderListing {
+            refusal: n,
+            count: 0,
+        },
+    }
+}

@@ -1,0 +1,93 @@
+-- The row is written apart from the table; here its own words are shown to say the same. Assumes nothing.
+use Prim.Native.Nat.{ℕ, _+_, _^_, _<_, suc, _≤_, _-_, _%_, _/_, zero}
+use native.Mathlib.Nat.{zero-add, mod-eq-of-lt, pow-suc, div-one, div-div-eq-div-mul}
+use native.Mathlib.Omega.{arith}
+use native.Mathlib.Decide.{ℕ-discrete, decLt, decLe}
+use mathlib.Core.Path.{_≡_, refl, sym, ap, _∙_, ap₂}
+use mathlib.Core.Logic.{_≢_, dite}
+use mathlib.Core.Bool.{Bool, true, false, not, _||_}
+use mathlib.Core.Option.{some}
+use mathlib.Core.List.{List, [], _∷_, _++_}
+use lib.Dec.{eqb, ltb}
+use borrow.Author.Tests.{lt-ltb, le-ltb, eq-eqb, ne-eqb, le-leb, lt-leb}
+use Rattle.model.specs.Choice.{any, choose, first, range, there}
+use Rattle.model.specs.Memory.{animal, live, permission, stamp}
+use Rattle.model.specs.Hash.{bytes}
+use Rattle.model.specs.Answers.{ahead, fresh, old, says-fresh}
+use Rattle.model.specs.Age.{age, bad-time, is-fresh, verdict, standing-mark, no-minute}
+use Rattle.model.specs.Listing.{list-record, live-count, records}
+use Rattle.model.specs.Row.{low-bytes, row-bad-time, row-count, row-list, row-says}
+use Rattle.model.proofs.ListLaws.{bool}
+
+-- age
+pub says-is : (limit now v s : ℕ) → v < 2 ^ 32 → verdict limit now v s ≡ row-says limit now v s
+unfolding verdict is-fresh age row-says
+says-is limit now v s h =
+    dite (ℕ-discrete s standing-mark) (λ e. rw (eq-eqb s standing-mark e, mod-eq-of-lt h))
+    λ ne. dite (decLt now s) (λ l. rw (ne-eqb s standing-mark ne, lt-leb s now l, lt-ltb now s l))
+    λ l. let le : s ≤ now = omega arith in
+    dite (decLe (now - s) limit)
+    (λ k. rw (ne-eqb s standing-mark ne, le-leb s now le, le-ltb now s le, le-leb (now - s) limit k, le-ltb limit (now - s) k, mod-eq-of-lt h))
+    λ k. let lt : limit < now - s = omega arith in
+    rw (ne-eqb s standing-mark ne, le-leb s now le, le-ltb now s le, lt-leb (now - s) limit lt, lt-ltb limit (now - s) lt)
+
+fresh-told : (b : Bool) (v a : ℕ) (c : Bool) (n : ℕ) → says-fresh (choose b (fresh v a) (choose c ahead (old n))) ≡ b
+fresh-told true v a c n = refl
+fresh-told false v a true n = refl
+fresh-told false v a false n = refl
+
+-- a verdict says fresh exactly if the stamp is in time
+pub fresh-says : (limit now v s : ℕ) → says-fresh (verdict limit now v s) ≡ is-fresh limit now s
+unfolding verdict
+fresh-says limit now v s = fresh-told (is-fresh limit now s) (v % 2 ^ 32) (age now s) (ltb now s) (now - s)
+
+pub fresh-is : (limit now v s : ℕ) → v < 2 ^ 32 → is-fresh limit now s ≡ says-fresh (row-says limit now v s)
+fresh-is limit now v s h = sym (fresh-says limit now v s) ∙ ap says-fresh (says-is limit now v s h)
+
+pub time-is : (M limit now : ℕ) → bad-time limit now ≡ row-bad-time M limit now
+time-is M limit now = or-is (ltb 10080 limit) (eqb now no-minute)
+  where
+    or-is : (b c : Bool) → (b || c) ≡ choose b true c
+    or-is true c = refl
+    or-is false c = refl
+
+-- the list
+pub bytes-is : (n x i : ℕ) → bytes n (x / 256 ^ i) ≡ low-bytes x i n
+unfolding bytes low-bytes
+bytes-is zero x i = refl
+bytes-is (suc n) x i =
+    ap (λ (l : List ℕ). x / 256 ^ i % 256 ∷ l)
+    (ap (bytes n) (div-div-eq-div-mul x (256 ^ i) 256 ∙ ap (λ k. x / k) (sym (pow-suc 256 i))) ∙ bytes-is n x (suc i))
+
+all-bytes : (n x : ℕ) → bytes n x ≡ low-bytes x 0 n
+all-bytes n x = ap (bytes n) (sym (div-one x)) ∙ bytes-is n x 0
+
+record-is : (l : List ℕ) (p : ℕ) → permission l p < 2 ^ 32
+    → list-record l p ≡ low-bytes (animal l p) 0 8 ++ (low-bytes (permission l p) 0 4 ++ low-bytes (stamp l p) 0 8)
+unfolding list-record
+record-is l p h = rw (mod-eq-of-lt h, all-bytes 8 (animal l p), all-bytes 4 (permission l p), all-bytes 8 (stamp l p))
+
+pub records-are : (l : List ℕ) → ((p : ℕ) → permission l p < 2 ^ 32) → (n p : ℕ) → records l (range p n) ≡ row-list l n p
+unfolding records range row-list
+records-are l narrow zero p = refl
+records-are l narrow (suc n) p =
+    ap₂ (λ (a b : List ℕ). a ++ b)
+    (bool (λ b. choose (not b) (list-record l p) []
+    ≡ choose b [] (low-bytes (animal l p) 0 8 ++ (low-bytes (permission l p) 0 4 ++ low-bytes (stamp l p) 0 8))) (eqb (animal l p) 0)
+    (λ e. refl) λ e. record-is l p (narrow p))
+    (records-are l narrow n (suc p))
+
+pub count-is : (l : List ℕ) (n p : ℕ) → live-count l (range p n) ≡ row-count l n p
+unfolding live-count range row-count
+count-is l zero p = refl
+count-is l (suc n) p =
+    ap₂ (λ (a b : ℕ). a + b) (bool (λ b. choose {A = ℕ} (not b) 1 0 ≡ choose b 0 1) (eqb (animal l p) 0) (λ e. refl) λ e. refl) (count-is l n (suc p))
+
+-- a live place
+pub live-one : (l : List ℕ) (n p : ℕ) → any (live l) (range p n) ≡ not (eqb (row-count l n p) 0)
+unfolding first range row-count
+live-one l zero p = refl
+live-one l (suc n) p =
+    bool (λ b. there (choose (not b) (some p) (first (live l) (range (suc p) n))) ≡ not (eqb (choose {A = ℕ} b 0 1 + row-count l n (suc p)) 0)) (eqb (animal l p) 0)
+    (λ e. live-one l n (suc p) ∙ ap (λ k. not (eqb k 0)) (sym (zero-add (row-count l n (suc p)))))
+    λ e. let ne : 1 + row-count l n (suc p) ≢ 0 = λ z. absurd (omega arith) in rw (ne-eqb (1 + row-count l n (suc p)) 0 ne)

@@ -1,0 +1,35 @@
+-- The roof: every statement that is owed. Assumes nothing.
+use Rattle.model.specs.Shape.{four}
+use Rattle.model.specs.Owed.{Owed}
+use Rattle.model.proofs.Demands as demands
+use Rattle.model.proofs.Never as never
+use Rattle.model.proofs.FreshAnywhere as anywhere
+use Rattle.model.proofs.NoTen as ten
+use Rattle.model.proofs.Linked as linked
+use Rattle.model.proofs.Paper as paper
+use Rattle.model.proofs.AsWritten as written
+
+pub owed : Owed
+owed =
+    record {
+      demand-1 = demands.gate-1;
+      demand-2 = demands.gate-2;
+      demand-3 = demands.gate-3;
+      eight-1 = demands.eight-1;
+      eight-2 = demands.eight-2;
+      eight-3 = demands.eight-3;
+      never-lost = never.gate-never;
+      eight-never = never.eight-never;
+      fresh-anywhere = anywhere.gate-fresh-anywhere;
+      never-ten = ten.never-ten four;
+      well-story = demands.well-story four;
+      leaves-lent = linked.leaves-lent four;
+      cuts-lent = linked.cuts-lent four;
+      fresh-lent = linked.fresh-lent four;
+      cut-whole = linked.cut-whole four;
+      paper-injective = paper.paper-injective;
+      all-hold = written.all-hold;
+      not-legal = written.not-legal;
+      not-well = written.not-well;
+      most-visits-are = written.most-visits-are;
+    }

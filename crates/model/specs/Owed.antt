@@ -1,0 +1,44 @@
+-- Every statement that is owed, on a line of its own; proofs/Theorems has them all. Assumes nothing.
+use Prim.Native.Nat.{ℕ, _*_, _≤_}
+use mathlib.Core.Path.{_≡_}
+use mathlib.Core.Logic.{_≢_}
+use lib.ListN.{length}
+use Rattle.model.specs.Memory.{Mem}
+use Rattle.model.specs.Shape.{eight, four, shape-of}
+use Rattle.model.specs.Moves.{Legal}
+use Rattle.model.specs.Stores.{stores}
+use Rattle.model.specs.Visits.{sum-of-powers}
+use Rattle.model.specs.Answers.{Answer, paper, refused}
+use Rattle.model.specs.Calling.{Call, did, evict, make-fresh}
+use Rattle.model.specs.Lent.{after-fresh, lent-after, lent-call, lent-cut}
+use Rattle.model.specs.WellFormed.{WellFormed}
+use Rattle.model.specs.AnyTable.{cut-at, leaves}
+use Rattle.model.specs.Demands.{Demand1, Demand2, Demand3, FreshAnywhere, NeverLost, Story, shape-in, table}
+use Rattle.model.specs.Ours.{gate, ours}
+use Rattle.model.specs.Examples.{AllHold, cuts, edges, examples, one-hurt, refusals, row-edges, row-examples, turns, two-tags}
+
+pub record Owed : Type 0 where
+  -- the order's three demands, of the gate's table; and of wish 13's
+  pub demand-1 : Demand1 gate
+  pub demand-2 : Demand2 four gate
+  pub demand-3 : Demand3 four gate
+  pub eight-1 : Demand1 (ours eight)
+  pub eight-2 : Demand2 eight (ours eight)
+  pub eight-3 : Demand3 eight (ours eight)
+  -- beyond the order: no entry is ever lost, fresh on any memory, refusal 10 never, what finished calls leave is well-formed
+  pub never-lost : NeverLost four gate
+  pub eight-never : NeverLost eight (ours eight)
+  pub fresh-anywhere : FreshAnywhere gate
+  pub never-ten : (m : Mem) (hand : ℕ) → lent-call four m (evict hand) .answer ≢ refused 10
+  pub well-story : (s : Story four) → WellFormed (shape-in four s) (table four gate s)
+  -- what the code's contracts cite is what the demands speak of
+  pub leaves-lent : (m : Mem) (c : Call) → leaves gate m (did c) ≡ lent-after four m c
+  pub cuts-lent : (m : Mem) (c : Call) (k : ℕ) → cut-at gate k m (did c) ≡ lent-cut four k m c
+  pub fresh-lent : (m : Mem) → leaves gate m make-fresh ≡ after-fresh four m
+  pub cut-whole : (m : Mem) (c : Call) (k : ℕ) → length (stores (lent-call four m c .blocks)) ≤ k → lent-cut four k m c ≡ lent-after four m c
+  pub paper-injective : (a b : Answer) → paper a ≡ paper b → a ≡ b
+  -- the definitions say what the document's examples say, and what its rules say at their edges and at every cut
+  pub all-hold : AllHold examples × AllHold refusals × AllHold turns × AllHold edges × AllHold cuts × AllHold row-examples × AllHold row-edges
+  pub not-legal : ¬ Legal (shape-of four two-tags .layout) (two-tags .slots) (record { from = 2; to = 8 })
+  pub not-well : ¬ WellFormed (shape-of four (one-hurt 3)) (one-hurt 3)
+  pub most-visits-are : (2 * sum-of-powers 4 4 ≡ 682) × (2 * sum-of-powers 8 3 ≡ 1170)

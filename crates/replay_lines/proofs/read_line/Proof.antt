@@ -1,0 +1,17 @@
+-- `replay_lines::read_line` meets its contract. Assumes nothing.
+use Rattle.replay_lines.proofs.Lines.{three-not, three-told}
+use borrow.Author.Needs.{needs}
+use Rattle.replay_lines.proofs.read_line.Statement.{statement}
+use Rattle.replay_lines.proofs.read_line.Tie as tie
+
+three-numbers-requires : tie.Need-three-numbers-requires
+three-numbers-requires c κs = search needs
+
+returns : tie.Need-returns
+returns c = search three-not
+
+returns-2 : tie.Need-returns-2
+returns-2 c = search three-told
+
+pub read-line-spec : {M : Type 1} → statement M
+read-line-spec = tie.close (tie.spec three-numbers-requires returns returns-2)

@@ -1,0 +1,162 @@
+-- Laws on the bytes before the first that passes a test, and on words. Assumes nothing.
+use Prim.Native.Nat.{ℕ, suc, _+_, _-_, _≤_, _<_}
+use native.Mathlib.Numerals.{add-one}
+use native.Mathlib.Omega.{arith}
+use mathlib.Core.Path.{_≡_, refl, sym, ap, ap₂, _∙_}
+use mathlib.Core.Logic.{_≢_}
+use mathlib.Core.Bool.{Bool, true, false, not}
+use mathlib.Core.List.{List, [], _∷_}
+use lib.ListN.{length, getD, take, drop, drop-of-length-le}
+use lib.Seq.{drop-cons, drop-drop}
+use lib.Dec.{eqb}
+use borrow.Author.Tests.{eq-eqb, ne-eqb, eqb-true, eqb-false}
+use Rattle.replay_words.specs.Words.{before, choose, filled, is-gap, is-no-gap, joined, pieces, words}
+use Rattle.replay_words.specs.Cursor.{First, NextWord, none-left}
+use Rattle.replay_words.specs.declared.Word.{Word}
+
+pub bool : (P : Bool → Type 0) (b : Bool) → (b ≡ true → P true) → (b ≡ false → P false) → P b
+bool P true t f = t refl
+bool P false t f = f refl
+
+module _ (f : ℕ → Bool) (bs : List ℕ) (i : ℕ) where
+  before-here : i < length bs → f (getD bs i 0) ≡ true → before f (drop i bs) ≡ []
+  unfolding before
+  before-here h e = rw (drop-cons bs i 0 h, e)
+
+  before-next : i < length bs → f (getD bs i 0) ≡ false → before f (drop i bs) ≡ getD bs i 0 ∷ before f (drop (i + 1) bs)
+  unfolding before
+  before-next h e = rw (drop-cons bs i 0 h, e, add-one)
+
+  before-end : length bs ≤ i → before f (drop i bs) ≡ []
+  unfolding before
+  before-end h = rw (drop-of-length-le bs h)
+
+-- a search from at has come to i
+pub record Seeking (f : ℕ → Bool) (bs : List ℕ) (at i : ℕ) : Type 0 where
+  pub inside : i ≤ length bs
+  pub ahead : i + length (before f (drop i bs)) ≡ at + length (before f (drop at bs))
+
+pub seek-first : {f : ℕ → Bool} {bs : List ℕ} {at : ℕ} → at ≤ length bs → Seeking f bs at at
+seek-first h = record { inside = h; ahead = refl }
+
+module _ {f : ℕ → Bool} {bs : List ℕ} {at i : ℕ} (s : Seeking f bs at i) where
+  pub seek-found : i < length bs → f (getD bs i 0) ≡ true → First f bs at i
+  seek-found h e =
+      record { first = omega (arith, s .ahead, ap length (before-here f bs i h e)); inside = s .inside }
+
+  pub seek-more : i < length bs → f (getD bs i 0) ≡ false → Seeking f bs at (i + 1)
+  seek-more h e =
+      record { inside = omega arith; ahead = omega (arith, s .ahead, ap length (before-next f bs i h e)) }
+
+  pub seek-end : length bs ≤ i → First f bs at i
+  seek-end h = record { first = omega (arith, s .ahead, ap length (before-end f bs i h)); inside = s .inside }
+
+-- for one byte
+module _ (n : ℕ) {bs : List ℕ} {at i : ℕ} (s : Seeking (λ b. eqb b n) bs at i) (h : i < length bs) where
+  pub byte-found : getD bs i 0 ≡ n → First (λ b. eqb b n) bs at i
+  byte-found e = seek-found s h (eq-eqb (getD bs i 0) n e)
+
+  pub byte-more : getD bs i 0 ≢ n → Seeking (λ b. eqb b n) bs at (i + 1)
+  byte-more e = seek-more s h (ne-eqb (getD bs i 0) n e)
+
+-- for a gap, and for a word
+module _ {bs : List ℕ} {at i : ℕ} {t : Bool} (s : Seeking is-gap bs at i) (h : i < length bs) (g : t ≡ is-gap (getD bs i 0)) where
+  pub gap-found : t ≡ true → First is-gap bs at i
+  gap-found e = seek-found s h (sym g ∙ e)
+
+  pub gap-more : t ≡ false → Seeking is-gap bs at (i + 1)
+  gap-more e = seek-more s h (sym g ∙ e)
+
+module _ {bs : List ℕ} {at i : ℕ} {t : Bool} (s : Seeking is-no-gap bs at i) (h : i < length bs) (g : t ≡ is-gap (getD bs i 0)) where
+  pub word-found : not t ≡ true → First is-no-gap bs at i
+  word-found e = seek-found s h (ap not (sym g) ∙ e)
+
+  pub word-more : not t ≡ false → Seeking is-no-gap bs at (i + 1)
+  word-more e = seek-more s h (ap not (sym g) ∙ e)
+
+-- the bytes before are the first ones
+pub before-take : (f : ℕ → Bool) (bs : List ℕ) → take (length (before f bs)) bs ≡ before f bs
+unfolding before
+before-take f [] = refl
+before-take f (b ∷ bs) =
+    bool (λ t. take (length (choose t [] (b ∷ before f bs))) (b ∷ bs) ≡ choose t [] (b ∷ before f bs)) (f b) (λ e. refl)
+    λ e. ap (λ (r : List ℕ). b ∷ r) (before-take f bs)
+
+-- a gap in front says nothing
+gap-words : (b : ℕ) (bs : List ℕ) → is-gap b ≡ true → words (b ∷ bs) ≡ words bs
+unfolding words pieces filled
+gap-words b bs e = ap (λ t. filled (joined t b (pieces bs))) e
+
+past-gaps : (bs : List ℕ) → words bs ≡ words (drop (length (before is-no-gap bs)) bs)
+unfolding before
+past-gaps [] = refl
+past-gaps (b ∷ bs) =
+    bool (λ t. words (b ∷ bs) ≡ words (drop (length (choose (not t) [] (b ∷ before is-no-gap bs))) (b ∷ bs))) (is-gap b)
+    (λ e. gap-words b bs e ∙ past-gaps bs) λ e. refl
+
+-- only gaps: no word
+only-gaps : (bs : List ℕ) → length (before is-gap (drop (length (before is-no-gap bs)) bs)) ≡ 0 → words bs ≡ []
+unfolding before words pieces filled
+only-gaps [] = λ z. refl
+only-gaps (b ∷ bs) =
+    bool (λ t. length (before is-gap (drop (length (choose (not t) [] (b ∷ before is-no-gap bs))) (b ∷ bs))) ≡ 0 → words (b ∷ bs) ≡ []) (is-gap b)
+    (λ e z. gap-words b bs e ∙ only-gaps bs z)
+    λ e z. absurd (no-length e z)
+  where
+    no-length : is-gap b ≡ false → length (before is-gap (b ∷ bs)) ≡ 0 → ⊥
+    no-length e z = let q : length (before is-gap (b ∷ bs)) ≡ suc (length (before is-gap bs)) = rw e in omega arith
+
+-- the pieces: the bytes before the first gap, and others that make the words behind it
+record Split (bs : List ℕ) : Type 0 where
+  others : List (List ℕ)
+  front : pieces bs ≡ before is-gap bs ∷ others
+  back : filled others ≡ words (drop (length (before is-gap bs)) bs)
+
+split-gap : (b : ℕ) (bs : List ℕ) → is-gap b ≡ true → Split (b ∷ bs)
+unfolding before words pieces filled
+split-gap b bs e =
+    let z : before is-gap (b ∷ bs) ≡ [] = rw e in
+    record { others = pieces bs; front = rw e; back = sym (ap (λ (l : List ℕ). words (drop (length l) (b ∷ bs))) z ∙ gap-words b bs e) }
+
+split-word : (b : ℕ) (bs : List ℕ) → is-gap b ≡ false → Split bs → Split (b ∷ bs)
+unfolding before words pieces filled
+split-word b bs e s = record { others = s .others; front = rw (e, s .front); back = rw (e, s .back) }
+
+split : (bs : List ℕ) → Split bs
+unfolding before words pieces filled
+split [] = record { others = []; front = refl; back = refl }
+split (b ∷ bs) = bool (λ t. is-gap b ≡ t → Split (b ∷ bs)) (is-gap b) (λ _ e. split-gap b bs e) (λ _ e. split-word b bs e (split bs)) refl
+
+filled-more : (w : List ℕ) (ps : List (List ℕ)) → length w ≢ 0 → filled (w ∷ ps) ≡ w ∷ filled ps
+unfolding filled
+filled-more [] ps ne = absurd (ne refl)
+filled-more (b ∷ w) ps ne = refl
+
+first-word : (bs : List ℕ) → length (before is-gap bs) ≢ 0 → words bs ≡ before is-gap bs ∷ words (drop (length (before is-gap bs)) bs)
+unfolding words
+first-word bs ne =
+    ap filled (split bs .front) ∙ filled-more (before is-gap bs) (split bs .others) ne
+    ∙ ap (λ (ws : List (List ℕ)). before is-gap bs ∷ ws) (split bs .back)
+
+-- the next word, from where it starts and ends
+pub by-word : {bs : List ℕ} {at s e : ℕ} → First is-no-gap bs at s → First is-gap bs s e → NextWord bs at (record { start = s; end = e })
+by-word {bs} {at} {s} {e} fs fe =
+    let past : drop (length (before is-no-gap (drop at bs))) (drop at bs) ≡ drop s bs =
+    drop-drop (length (before is-no-gap (drop at bs))) at bs ∙ ap (λ k. drop k bs) (sym (fs .first)) in
+    let behind : drop (length (before is-gap (drop s bs))) (drop s bs) ≡ drop e bs =
+    drop-drop (length (before is-gap (drop s bs))) s bs ∙ ap (λ k. drop k bs) (sym (fe .first)) in
+    let long : e - s ≡ length (before is-gap (drop s bs)) = omega (arith, fe .first) in
+    record {
+      forward = omega (arith, fe .first);
+      inside = fe .inside;
+      none-left = λ q. only-gaps (drop at bs) (ap (λ (l : List ℕ). length (before is-gap l)) past ∙ omega (arith, long));
+      next-word = λ ne. past-gaps (drop at bs) ∙ ap words past ∙ first-word (drop s bs) (λ z. ne (omega (arith, fe .first)))
+          ∙ ap₂ (λ (w : List ℕ) (ws : List (List ℕ)). w ∷ ws)
+          (sym (before-take is-gap (drop s bs)) ∙ ap (λ k. take k (drop s bs)) (sym long)) (ap words behind);
+    }
+
+-- no word is left
+pub at-end : {bs : List ℕ} {at : ℕ} {w : Word} → NextWord bs at w → eqb (w .start) (w .end) ≡ none-left (words (drop at bs))
+at-end {bs} {at} {w} next =
+    bool (λ t. t ≡ none-left (words (drop at bs))) (eqb (w .start) (w .end)) (λ e. rw (next .none-left (eqb-true (w .start) (w .end) e)))
+    λ e. rw (next .next-word (eqb-false (w .start) (w .end) e))

@@ -1,0 +1,38 @@
+-- What the code's steps along a line say of its words. Assumes nothing.
+use Prim.Native.Nat.{ℕ, _+_, _-_, _≤_}
+use mathlib.Core.Path.{_≡_}
+use mathlib.Core.Logic.{_≢_}
+use mathlib.Core.Bool.{Bool, true, false}
+use mathlib.Core.Option.{Option, none, some}
+use mathlib.Core.List.{List, [], _∷_}
+use lib.ListN.{length, take, drop}
+use Rattle.replay_words.specs.Words.{before, words}
+use Rattle.replay_words.specs.declared.Word.{Word}
+use Rattle.replay_words.specs.declared.Number.{Number}
+use Rattle.replay_words.specs.declared.Number.the-variants as number
+
+-- the first position from at on whose byte passes a test, or the length
+pub record First (f : ℕ → Bool) (bs : List ℕ) (at r : ℕ) : Type 0 where
+  pub first : r ≡ at + length (before f (drop at bs))
+  pub inside : r ≤ length bs
+
+-- the bytes of a line from s up to e
+abbrev pub part : List ℕ → ℕ → ℕ → List ℕ
+part bs s e = take (e - s) (drop s bs)
+
+-- the next word from a position on: none if it is empty, and else the first of the words there, with the others behind it
+pub record NextWord (bs : List ℕ) (at : ℕ) (r : Word) : Type 0 where
+  pub forward : r .start ≤ r .end
+  pub inside : r .end ≤ length bs
+  pub none-left : r .start ≡ r .end → words (drop at bs) ≡ []
+  pub next-word : r .start ≢ r .end → words (drop at bs) ≡ part bs (r .start) (r .end) ∷ words (drop (r .end) bs)
+
+-- a number as the code says it
+abbrev pub told : Number → Option ℕ
+told (number.Value v) = some v
+told number.Not = none
+
+-- whether no word is left
+abbrev pub none-left : List (List ℕ) → Bool
+none-left [] = true
+none-left (w ∷ ws) = false

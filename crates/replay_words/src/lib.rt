@@ -1,0 +1,202 @@
+// The words and numbers of a line of the replay program, and the bytes of an answer. No input or output.
+ghost use mathlib.Core.Path.{_≡_};
+ghost use Prim.Native.Nat.{_+_, _%_, _<_, _≤_};
+ghost use lib.ListN.{length, drop};
+ghost use Rattle.replay_words.specs.Words.{is-end, is-comment, is-gap, is-no-gap, words, same, number};
+ghost use Rattle.replay_words.specs.Cursor.{First, NextWord, told, none-left};
+ghost use Rattle.replay_words.specs.Print.{decimal-of, hex-digit, hex-of, Put};
+
+// The first LF at or after `at`, or the length.
+pub fn line_end(text: &[u8], at: usize) -> usize
+    requires { ⌜ at ≤ length (now text) ⌝ }
+    ensures { λ r. ⌜ First is-end (now (text .entry)) at r ⌝ }
+{
+    let mut i = at;
+    while i < text.len() {
+        if text[i] == b'\n' {
+            return i;
+        }
+        i += 1;
+    }
+    i
+}
+
+// The first comment sign, or the length.
+pub fn comment_start(text: &[u8]) -> usize
+    ensures { λ r. ⌜ First is-comment (now (text .entry)) 0 r ⌝ }
+{
+    let mut i: usize = 0;
+    while i < text.len() {
+        if text[i] == b'#' {
+            return i;
+        }
+        i += 1;
+    }
+    i
+}
+
+fn is_space_or_tab(b: u8) -> bool
+    ensures { λ r. ⌜ r ≡ is-gap b ⌝ }
+{
+    (b == b' ') | (b == b'\t')
+}
+
+// The first byte at or after `at` that is in a word, or the length.
+fn word_start(line: &[u8], at: usize) -> usize
+    requires { ⌜ at ≤ length (now line) ⌝ }
+    ensures { λ r. ⌜ First is-no-gap (now (line .entry)) at r ⌝ }
+{
+    let mut i = at;
+    while i < line.len() {
+        if !is_space_or_tab(line[i]) {
+            return i;
+        }
+        i += 1;
+    }
+    i
+}
+
+// The first byte at or after `at` that is in no word, or the length.
+fn word_end(line: &[u8], at: usize) -> usize
+    requires { ⌜ at ≤ length (now line) ⌝ }
+    ensures { λ r. ⌜ First is-gap (now (line .entry)) at r ⌝ }
+{
+    let mut i = at;
+    while i < line.len() {
+        if is_space_or_tab(line[i]) {
+            return i;
+        }
+        i += 1;
+    }
+    i
+}
+
+// Where a word of a line starts and ends; it is empty if there is none.
+pub struct Word {
+    pub start: usize,
+    pub end: usize,
+}
+
+// The next word from `at` on.
+pub fn next_word(line: &[u8], at: usize) -> Word
+    requires { ⌜ at ≤ length (now line) ⌝ }
+    ensures { λ r. ⌜ NextWord (now (line .entry)) at r ⌝ }
+{
+    let start = word_start(line, at);
+    let end = word_end(line, start);
+    Word { start, end }
+}
+
+// Whether a word is a name.
+pub fn is_word(word: &[u8], name: &[u8]) -> bool
+    ensures { λ r. ⌜ r ≡ same (now (word .entry)) (now (name .entry)) ⌝ }
+{
+    if word.len() != name.len() {
+        return false;
+    }
+    let mut i: usize = 0;
+    while i < name.len() {
+        if word[i] != name[i] {
+            return false;
+        }
+        i += 1;
+    }
+    true
+}
+
+// What a word says, if it is a number.
+pub enum Number {
+    Value(u64),
+    Not,
+}
+
+fn wide(b: u8) -> u64
+    ensures { λ r. ⌜ r ≡ b ⌝ }
+{
+    b as u64
+}
+
+// The number of a word of decimal digits, if it is at most `top`: tested digit by digit, so that no product wraps.
+pub fn number_of(word: &[u8], top: u64) -> Number
+    ensures { λ r. ⌜ told r ≡ number top (now (word .entry)) ⌝ }
+{
+    if word.len() == 0 {
+        return Number::Not;
+    }
+    let mut v: u64 = 0;
+    let mut i: usize = 0;
+    while i < word.len() {
+        let b = word[i];
+        if b < b'0' {
+            return Number::Not;
+        }
+        if b'9' < b {
+            return Number::Not;
+        }
+        let d = wide(b - b'0');
+        if top / 10 < v {
+            return Number::Not;
+        }
+        if top - v * 10 < d {
+            return Number::Not;
+        }
+        v = v * 10 + d;
+        i += 1;
+    }
+    Number::Value(v)
+}
+
+// Whether no word is left from `at` on.
+pub fn is_at_end(line: &[u8], at: usize) -> bool
+    requires { ⌜ at ≤ length (now line) ⌝ }
+    ensures { λ r. ⌜ r ≡ none-left (words (drop at (now (line .entry)))) ⌝ }
+{
+    let word = next_word(line, at);
+    word.start == word.end
+}
+
+// The last decimal digit of a number.
+fn digit(x: u64) -> u8
+    ensures { λ r. ⌜ r ≡ 48 + x % 10 ⌝ }
+{
+    b'0' + (x % 10) as u8
+}
+
+// The digits of a number from `at` on; the position behind them. They come last digit first, so they are collected from the end.
+pub fn put_decimal(buffer: &mut [u8], at: usize, x: u64) -> usize
+    requires { ⌜ at + 20 ≤ length (now buffer) ⌝ }
+    ensures { λ r. ⌜ Put (decimal-of x) at (now (buffer .entry)) (now (buffer .exit)) r × (r ≤ at + 20) ⌝ }
+{
+    let mut digits = [0u8; 20];
+    let mut rest = x;
+    let mut n: usize = 0;
+    while 10 <= rest {
+        let place = 19 - n;
+        digits[place] = digit(rest);
+        rest = rest / 10;
+        n += 1;
+    }
+    let first = 19 - n;
+    digits[first] = digit(rest);
+    put_bytes(buffer, at, &digits[first..])
+}
+
+fn hex_digit(n: u8) -> u8
+    requires { ⌜ n < 16 ⌝ }
+    ensures { λ r. ⌜ r ≡ hex-digit n ⌝ }
+{
+    if n < 10 {
+        return b'0' + n;
+    }
+    b'a' + (n - 10)
+}
+
+// The two hexadecimal digits of a byte from `at` on; the position behind them.
+pub fn put_hex_byte(buffer: &mut [u8], at: usize, b: u8) -> usize
+    requires { ⌜ at + 2 ≤ length (now buffer) ⌝ }
+    ensures { λ r. ⌜ Put (hex-of b) at (now (buffer .entry)) (now (buffer .exit)) r × (r ≡ at + 2) ⌝ }
+{
+    buffer[at] = hex_digit(b / 16);
+    buffer[at + 1] = hex_digit(b % 16);
+    at + 2
+}

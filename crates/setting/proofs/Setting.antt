@@ -1,0 +1,112 @@
+-- Set, cut and whole: what was looked up decides, and no set makes more than 23 stores. Assumes nothing.
+use Prim.Native.Nat.{ℕ, _+_, _*_, _≤_, _/_}
+use native.Mathlib.Omega.{arith}
+use mathlib.Core.Path.{_≡_, refl, sym, ap, _∙_}
+use mathlib.Core.Logic.{_≢_}
+use mathlib.Core.Bool.{Bool}
+use mathlib.Core.Option.{Option, none, some}
+use mathlib.Core.List.{List, [], _∷_}
+use lib.ListN.{length, length-append}
+use lib.Dec.{eqb}
+use Rattle.model.specs.Memory.{Mem, mem, place}
+use Rattle.model.specs.Shape.{Shape, Ways, pair, right-lengths, shape-of}
+use Rattle.model.specs.Stores.{stores}
+use Rattle.model.specs.Moves.{Move, moved}
+use Rattle.model.specs.Visits.{free-slot, stop-bucket}
+use Rattle.model.specs.Answers.{Answer, refused}
+use Rattle.model.specs.Calling.{set-animal}
+use Rattle.model.specs.Age.{bad-grant}
+use Rattle.model.specs.Calls.{Outcome, enter-at, enter-block, entered, final-slot, held, move-blocks, moves-found, search-damage, set-at, stopped, updated, vacant-place, visited}
+use Rattle.model.specs.Promised.{CutAs, Does, WholeAs}
+use Rattle.model.proofs.Search.{length-climb}
+use Rattle.blocks.proofs.Budget.{Few, did-all, does-as, does-refuse, few-asked, few-or, few-refuse, stores-append}
+use Rattle.looking.specs.Look.{LooksUp, Passed, early}
+use Rattle.looking.proofs.Early.{early-outcome, early-passed}
+use Rattle.looking.proofs.Looking.{look-holds, look-lacks, look-refused}
+use Rattle.setting.specs.Entering.{Homed, entering-new}
+use Rattle.model.specs.declared.Grant.{Grant}
+use Rattle.looking.specs.declared.Looked.{Looked}
+use Rattle.looking.specs.declared.Look.the-variants as look
+
+module _ (W : Ways) (m : Mem) (g : Grant) {b : Bool} (eb : b ≡ bad-grant g) {n : ℕ} (e : n ≡ early (right-lengths W m) (g .animal) b) where
+  abbrev rest : Outcome
+  rest = set-at (shape-of W m) m g (held (shape-of W m) m (g .animal))
+
+  pub set-early : n ≢ 0 → {k : ℕ} → CutAs W m (set-animal g) k m (refused n)
+  set-early nz = does-refuse (early-outcome W m (g .animal) (bad-grant g) (rw eb at e) nz rest)
+
+  module _ (z : n ≡ 0) {r : Looked} (l : LooksUp W m (g .animal) r) where
+    passed : Passed W m (g .animal) (bad-grant g)
+    passed = early-passed W m (g .animal) (bad-grant g) eb e z
+
+    pub set-homed : Homed W m (g .animal) (r .homes)
+    set-homed = record { right = passed .lengths; homes-are = l .homes-are }
+
+    pub set-refused : {j k : ℕ} → r .look ≡ look.Refused j → CutAs W m (set-animal g) k m (refused j)
+    set-refused q = does-refuse (look-refused W m (g .animal) (bad-grant g) rest passed l q)
+
+    pub set-new : r .look ≡ look.Absent → {k : ℕ} {m′ : Mem} {a : Answer} → Does (entering-new W m g) k m m′ a → CutAs W m (set-animal g) k m′ a
+    set-new q d =
+        let s = look-lacks W m (g .animal) (bad-grant g) rest passed l q in does-as (sym (s .0 ∙ ap (set-at (shape-of W m) m g) (s .1))) d
+
+    pub set-update : {w : ℕ} → r .look ≡ look.At w → {k : ℕ} {c i : List ℕ} {a : Answer}
+        → ((s : List ℕ) → Does (updated (r .homes .counter) (place w) g) k (mem s (m .counters) (m .items)) (mem s c i) a)
+        → CutAs W m (set-animal g) k (mem (m .slots) c i) a
+    set-update {w} q d =
+        let s = look-holds W m (g .animal) (bad-grant g) rest passed l q in
+        does-as (sym (s .0 ∙ ap (set-at (shape-of W m) m g) (s .1) ∙ ap (λ c. updated c (place w) g) (sym (l .homes-are .counter-is)))) (d (m .slots))
+
+-- four stores a move, at most as many moves as the reach, and the seven of the new entry
+move-stores : (Y : Shape) (T : List ℕ) (vs : List Move) → length (stores (move-blocks Y T vs)) ≡ 4 * length vs
+unfolding stores
+move-stores Y T [] = refl
+move-stores Y T (v ∷ vs) = omega (arith, move-stores Y (moved T v) vs)
+
+module _ (W : Ways) (m : Mem) (g : Grant) where
+  abbrev Y : Shape
+  Y = shape-of W m
+
+  few-entered : (p : ℕ) → Few (4 * W .reach + 7) (entered Y m g p)
+  unfolding stores
+  few-entered p =
+      record {
+        few = rw (stores-append (move-blocks Y (m .slots) (moves-found Y m (g .animal))) (enter-block Y g p (final-slot Y m (g .animal)) ∷ []), length-append)
+            (omega (
+              arith,
+              move-stores Y (m .slots) (moves-found Y m (g .animal)),
+              length-climb (Y .layout) (visited Y m (g .animal)) 2 (W .reach) (stopped Y m (g .animal))
+                  (free-slot (Y .layout) (m .slots) (stop-bucket (Y .layout) (m .slots) (pair Y (g .animal)) (W .reach))),
+            ));
+      }
+
+  few-set-at : (o : Option ℕ) → Few (4 * W .reach + 7) (set-at Y m g o)
+  unfolding stores
+  few-set-at none = few (vacant-place (length (m .items) / 4) (m .items))
+    where
+      few : (o : Option ℕ) → Few (4 * W .reach + 7) (enter-at Y m g o)
+      few none = few-refuse 5
+      few (some p) =
+          few-or (search-damage Y m (g .animal)) (few-refuse 4)
+          (few-or (eqb (stopped Y m (g .animal)) (length (visited Y m (g .animal)))) (few-refuse 6) (few-entered p))
+  few-set-at (some p) = record { few = omega arith }
+
+  -- behind the last store the cut form is the whole call
+  whole : 4 * W .reach + 7 ≤ 18446744073709551615 → {m′ : Mem} {a : Answer} → CutAs W m (set-animal g) 18446744073709551615 m′ a → WholeAs W m (set-animal g) m′ a
+  whole h d = did-all (few-asked W m (g .animal) (bad-grant g) (few-set-at (held Y m (g .animal)))) h d
+
+module _ (W : Ways) (few : 4 * W .reach + 7 ≤ 18446744073709551615) (m : Mem) (g : Grant) {b : Bool} (eb : b ≡ bad-grant g) {n : ℕ}
+    (e : n ≡ early (right-lengths W m) (g .animal) b) where
+  pub whole-early : n ≢ 0 → WholeAs W m (set-animal g) m (refused n)
+  whole-early nz = whole W m g few (set-early W m g eb e nz)
+
+  module _ (z : n ≡ 0) {r : Looked} (l : LooksUp W m (g .animal) r) where
+    pub whole-refused : {j : ℕ} → r .look ≡ look.Refused j → WholeAs W m (set-animal g) m (refused j)
+    whole-refused q = whole W m g few (set-refused W m g eb e z l q)
+
+    pub whole-new : r .look ≡ look.Absent → {m′ : Mem} {a : Answer} → Does (entering-new W m g) 18446744073709551615 m m′ a → WholeAs W m (set-animal g) m′ a
+    whole-new q d = whole W m g few (set-new W m g eb e z l q d)
+
+    pub whole-update : {w : ℕ} → r .look ≡ look.At w → {c i : List ℕ} {a : Answer}
+        → ((s : List ℕ) → Does (updated (r .homes .counter) (place w) g) 18446744073709551615 (mem s (m .counters) (m .items)) (mem s c i) a)
+        → WholeAs W m (set-animal g) (mem (m .slots) c i) a
+    whole-update q d = whole W m g few (set-update W m g eb e z l q d)
