@@ -1,4 +1,2 @@
-pub mod Examples
 pub mod Scan
 pub mod OneWord
-pub mod Printing

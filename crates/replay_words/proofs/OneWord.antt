@@ -11,7 +11,8 @@ use lib.ListN.{length, getD, drop, drop-of-length-le}
 use lib.Seq.{drop-cons}
 use lib.Dec.{eqb, leb}
 use borrow.Author.Tests.{eq-eqb, ne-eqb, le-leb, lt-leb, leb-true}
-use Rattle.replay_words.specs.Words.{all-digits, choose, is-digit, number, number-from, same, value}
+use Rattle.model.specs.Choice.{choose}
+use Rattle.replay_words.specs.Words.{all-digits, is-digit, number, number-from, same, value}
 use Rattle.replay_words.proofs.Scan.{bool}
 
 -- words of two lengths differ

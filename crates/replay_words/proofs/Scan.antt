@@ -10,7 +10,8 @@ use lib.ListN.{length, getD, take, drop, drop-of-length-le}
 use lib.Seq.{drop-cons, drop-drop}
 use lib.Dec.{eqb}
 use borrow.Author.Tests.{eq-eqb, ne-eqb, eqb-true, eqb-false}
-use Rattle.replay_words.specs.Words.{before, choose, filled, is-gap, is-no-gap, joined, pieces, words}
+use Rattle.model.specs.Choice.{choose}
+use Rattle.replay_words.specs.Words.{before, filled, is-gap, is-no-gap, joined, pieces, words}
 use Rattle.replay_words.specs.Cursor.{First, NextWord, none-left}
 use Rattle.replay_words.specs.declared.Word.{Word}
 

@@ -6,11 +6,7 @@ use mathlib.Core.Option.{Option, none, some}
 use mathlib.Core.List.{List, [], _∷_}
 use lib.ListN.{length, getD, take}
 use lib.Dec.{eqb, leb}
-
--- the first of two if a test passed, else the second
-abbrev pub choose : {A : Type 0} → Bool → A → A → A
-choose true a b = a
-choose false a b = b
+use Rattle.model.specs.Choice.{choose}
 
 -- the bytes before the first that passes a test
 unfoldable pub before : (ℕ → Bool) → List ℕ → List ℕ
@@ -32,6 +28,17 @@ is-gap b = eqb b (code " ") || eqb b (code "\t")
 abbrev pub is-no-gap : ℕ → Bool
 is-no-gap b = not (is-gap b)
 
+-- one more byte in front: one that parts starts a piece of its own, any other joins the first piece
+abbrev pub joined : Bool → ℕ → List (List ℕ) → List (List ℕ)
+joined true b ps = [] ∷ ps
+joined false b [] = (b ∷ []) ∷ []
+joined false b (p ∷ ps) = (b ∷ p) ∷ ps
+
+-- the lines of a text, each without its LF; behind the last LF a line starts only if there is a byte
+unfoldable pub lines : List ℕ → List (List ℕ)
+lines [] = []
+lines (b ∷ bs) = joined (is-end b) b (lines bs)
+
 -- a CR at the end of a line belongs to the line end
 unfoldable pub without-return : List ℕ → List ℕ
 without-return bs = choose (eqb (getD bs (length bs - 1) 0) (code "\r")) (take (length bs - 1) bs) bs
@@ -39,12 +46,6 @@ without-return bs = choose (eqb (getD bs (length bs - 1) 0) (code "\r")) (take (
 -- nor is a comment part of what a line says
 unfoldable pub without-comment : List ℕ → List ℕ
 without-comment bs = before is-comment bs
-
--- one more byte in front: a gap starts a piece of its own, any other byte joins the first piece
-abbrev pub joined : Bool → ℕ → List (List ℕ) → List (List ℕ)
-joined true b ps = [] ∷ ps
-joined false b [] = (b ∷ []) ∷ []
-joined false b (p ∷ ps) = (b ∷ p) ∷ ps
 
 -- the pieces between the gaps, the empty ones too
 unfoldable pub pieces : List ℕ → List (List ℕ)

@@ -1,8 +1,8 @@
--- `replay_words::put_decimal` meets its contract: the digits still to come and those that are there are those of the number. Assumes nothing.
-use Rattle.replay_words.proofs.Printing.{Printing, print-first, print-more, print-room, print-put, print-few}
+-- `replay_print::put_decimal` meets its contract: the digits still to come and those that are there are those of the number. Assumes nothing.
+use Rattle.replay_print.proofs.Printing.{Printing, print-first, print-more, print-room, print-put, print-few}
 use borrow.Author.Needs.{needs}
-use Rattle.replay_words.proofs.put_decimal.Statement.{statement}
-use Rattle.replay_words.proofs.put_decimal.Tie as tie
+use Rattle.replay_print.proofs.put_decimal.Statement.{statement}
+use Rattle.replay_print.proofs.put_decimal.Tie as tie
 
 abbrev Inv-loop : tie.InvT-loop
 Inv-loop buffer at x digits₀ rest₀ n₀ digits rest n = Printing x digits rest n

@@ -1,8 +1,8 @@
--- `replay_words::put_hex_byte` meets its contract. Assumes nothing.
-use Rattle.replay_words.proofs.Printing.{hex-room, hex-put}
+-- `replay_print::put_hex_byte` meets its contract. Assumes nothing.
+use Rattle.replay_print.proofs.Printing.{hex-room, hex-put}
 use borrow.Author.Needs.{needs}
-use Rattle.replay_words.proofs.put_hex_byte.Statement.{statement}
-use Rattle.replay_words.proofs.put_hex_byte.Tie as tie
+use Rattle.replay_print.proofs.put_hex_byte.Statement.{statement}
+use Rattle.replay_print.proofs.put_hex_byte.Tie as tie
 
 hex-digit-requires : tie.Need-hex-digit-requires
 hex-digit-requires c κs = search needs

@@ -1,9 +1,9 @@
--- `replay_words::hex_digit` meets its contract. Assumes nothing.
+-- `replay_print::hex_digit` meets its contract. Assumes nothing.
 use borrow.Author.Tests.{lt-ltb, le-ltb}
-use Rattle.replay_words.specs.Print.{hex-digit}
+use Rattle.replay_print.specs.Print.{hex-digit}
 use borrow.Author.Needs.{needs}
-use Rattle.replay_words.proofs.hex_digit.Statement.{statement}
-use Rattle.replay_words.proofs.hex_digit.Tie as tie
+use Rattle.replay_print.proofs.hex_digit.Statement.{statement}
+use Rattle.replay_print.proofs.hex_digit.Tie as tie
 
 add-result : tie.Need-add-result
 add-result c = search needs

@@ -12,9 +12,11 @@ use mathlib.Core.List.{List, [], _∷_, _++_, append-assoc, append-nil}
 use lib.ListN.{length, getD, set, take, drop, drop-of-length-le, length-append, length-drop, length-set, length-take}
 use lib.Seq.{drop-cons, drop-set-lt, getD-set-same, length-sets, sets, sets-eq, take-all}
 use borrow.Author.Tests.{le-leb}
-use Rattle.replay_words.specs.Words.{all-digits, choose, is-digit, number, number-from, value}
-use Rattle.replay_words.specs.Print.{Put, decimal-of, digits, hex-digit, hex-of}
+use Rattle.model.specs.Choice.{choose}
+use Rattle.buffer.specs.Put.{Put}
+use Rattle.replay_words.specs.Words.{all-digits, is-digit, number, number-from, value}
 use Rattle.replay_words.proofs.Scan.{bool}
+use Rattle.replay_print.specs.Print.{decimal-of, digits, hex-digit, hex-of}
 
 -- turns enough are enough
 digits-zero : (f : ℕ) → digits f 0 ≡ []
