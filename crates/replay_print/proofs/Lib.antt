@@ -1,2 +1,4 @@
 pub mod Examples
 pub mod Printing
+pub mod Lines
+pub mod Records

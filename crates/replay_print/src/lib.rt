@@ -1,9 +1,10 @@
 // What the replay program prints, in bytes: numbers, lines of words and numbers, records. Each function writes from `at` on and gives the position behind.
 ghost use mathlib.Core.Path.{_≡_};
 ghost use Prim.Native.Nat.{_+_, _*_, _%_, _<_, _≤_};
+ghost use mathlib.Core.List.{[]};
 ghost use lib.ListN.{length};
 ghost use Rattle.buffer.specs.Put.{Put};
-ghost use Rattle.replay_print.specs.Print.{decimal-of, hex-digit, hex-of};
+ghost use Rattle.replay_print.specs.Print.{decimal-of, hex-digit, hex-of, line, numbered, told, hexes, record-lines};
 
 // The last decimal digit of a number.
 fn digit(x: u64) -> u8
@@ -49,4 +50,107 @@ pub fn put_hex_byte(buffer: &mut [u8], at: usize, b: u8) -> usize
     buffer[at] = hex_digit(b / 16);
     buffer[at + 1] = hex_digit(b % 16);
     at + 2
+}
+
+// Words and the line's end.
+pub fn put_line(buffer: &mut [u8], at: usize, words: &[u8]) -> usize
+    requires { ⌜ at + length (now words) + 1 ≤ length (now buffer) ⌝ }
+    ensures { λ r. ⌜ Put (line (now (words .entry))) at (now (buffer .entry)) (now (buffer .exit)) r ⌝ }
+{
+    let behind = buffer::put_bytes(buffer, at, words);
+    buffer::put_bytes(buffer, behind, b"\n")
+}
+
+// A word, a space and a number.
+pub fn put_numbered(buffer: &mut [u8], at: usize, word: &[u8], n: u64) -> usize
+    requires { ⌜ at + length (now word) + 21 ≤ length (now buffer) ⌝ }
+    ensures { λ r. ⌜ Put (numbered (now (word .entry)) n) at (now (buffer .entry)) (now (buffer .exit)) r × (r ≤ at + length (now (word .entry)) + 21) ⌝ }
+{
+    let behind_word = buffer::put_bytes(buffer, at, word);
+    let behind_space = buffer::put_bytes(buffer, behind_word, b" ");
+    put_decimal(buffer, behind_space, n)
+}
+
+// Numbers behind a word, each with its space, and the line's end.
+fn put_numbers(buffer: &mut [u8], at: usize, numbers: &[u64]) -> usize
+    requires { ⌜ at + 21 * length (now numbers) + 1 ≤ length (now buffer) ⌝ }
+    ensures { λ r. ⌜ Put (told [] (now (numbers .entry))) at (now (buffer .entry)) (now (buffer .exit)) r × (r ≤ at + 21 * length (now (numbers .entry)) + 1) ⌝ }
+{
+    let mut next = at;
+    let mut i: usize = 0;
+    while i < numbers.len() {
+        next = put_numbered(buffer, next, b"", numbers[i]);
+        i += 1;
+    }
+    put_line(buffer, next, b"")
+}
+
+fn wide(x: u32) -> u64
+    ensures { λ r. ⌜ r ≡ x ⌝ }
+{
+    x as u64
+}
+
+fn put_numbers32(buffer: &mut [u8], at: usize, numbers: &[u32]) -> usize
+    requires { ⌜ at + 21 * length (now numbers) + 1 ≤ length (now buffer) ⌝ }
+    ensures { λ r. ⌜ Put (told [] (now (numbers .entry))) at (now (buffer .entry)) (now (buffer .exit)) r × (r ≤ at + 21 * length (now (numbers .entry)) + 1) ⌝ }
+{
+    let mut next = at;
+    let mut i: usize = 0;
+    while i < numbers.len() {
+        next = put_numbered(buffer, next, b"", wide(numbers[i]));
+        i += 1;
+    }
+    put_line(buffer, next, b"")
+}
+
+// A line of a word and its numbers.
+pub fn put_told(buffer: &mut [u8], at: usize, word: &[u8], numbers: &[u64]) -> usize
+    requires { ⌜ at + length (now word) + 21 * length (now numbers) + 1 ≤ length (now buffer) ⌝ }
+    ensures { λ r. ⌜ Put (told (now (word .entry)) (now (numbers .entry))) at (now (buffer .entry)) (now (buffer .exit)) r
+        × (r ≤ at + length (now (word .entry)) + 21 * length (now (numbers .entry)) + 1) ⌝ }
+{
+    let behind = buffer::put_bytes(buffer, at, word);
+    put_numbers(buffer, behind, numbers)
+}
+
+pub fn put_told32(buffer: &mut [u8], at: usize, word: &[u8], numbers: &[u32]) -> usize
+    requires { ⌜ at + length (now word) + 21 * length (now numbers) + 1 ≤ length (now buffer) ⌝ }
+    ensures { λ r. ⌜ Put (told (now (word .entry)) (now (numbers .entry))) at (now (buffer .entry)) (now (buffer .exit)) r
+        × (r ≤ at + length (now (word .entry)) + 21 * length (now (numbers .entry)) + 1) ⌝ }
+{
+    let behind = buffer::put_bytes(buffer, at, word);
+    put_numbers32(buffer, behind, numbers)
+}
+
+// The bytes of a record, two digits each, on a line.
+fn put_record(buffer: &mut [u8], at: usize, bytes: &[u8]) -> usize
+    requires { ⌜ at + 2 * length (now bytes) + 1 ≤ length (now buffer) ⌝ }
+    ensures { λ r. ⌜ Put (line (hexes (now (bytes .entry)))) at (now (buffer .entry)) (now (buffer .exit)) r ⌝ }
+    ensures { λ r. ⌜ r ≡ at + 2 * length (now (bytes .entry)) + 1 ⌝ }
+{
+    let mut next = at;
+    let mut i: usize = 0;
+    while i < bytes.len() {
+        next = put_hex_byte(buffer, next, bytes[i]);
+        i += 1;
+    }
+    put_line(buffer, next, b"")
+}
+
+// The first n records of 20 bytes, a line each.
+pub fn put_records(buffer: &mut [u8], at: usize, n: usize, records: &[u8]) -> usize
+    requires { ⌜ 20 * n ≤ length (now records) ⌝ }
+    requires { ⌜ at + 41 * n ≤ length (now buffer) ⌝ }
+    ensures { λ r. ⌜ Put (record-lines n (now (records .entry))) at (now (buffer .entry)) (now (buffer .exit)) r × (r ≤ at + 41 * n) ⌝ }
+{
+    let mut next = at;
+    let mut i: usize = 0;
+    while i < n {
+        let from = 20 * i;
+        let end = from + 20;
+        next = put_record(buffer, next, &records[from..end]);
+        i += 1;
+    }
+    next
 }
