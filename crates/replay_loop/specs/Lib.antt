@@ -1,1 +1,2 @@
-pub mod InUse
+pub mod Replayed
+pub mod Standing

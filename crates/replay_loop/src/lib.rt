@@ -1,280 +1,90 @@
-// Replays lines of calls on one table, one after the other, and writes their answers through one buffer.
-ghost use Prim.Native.Nat.{_<_, _≤_};
-ghost use lib.ListN.{length};
-ghost use Rattle.replay_shows.specs.Room.{Room};
-ghost use Rattle.replay_loop.specs.InUse.{Moved, Fits, PieceAt};
+// Replays the lines of a text, one after the other, and hands over their answers in portions.
+ghost use mathlib.Core.Path.{_≡_};
+ghost use mathlib.Core.List.{_++_};
+ghost use Prim.Native.Nat.{_+_, _*_, _<_, _≤_};
+ghost use lib.ListN.{length, take, drop};
+ghost use Rattle.replay_turns.specs.Meaning.{meaning, starts};
+ghost use Rattle.replay_turns.specs.World.{longest};
+ghost use Rattle.replay_loop.specs.Replayed.{answers, language};
+ghost use Rattle.replay_lines.specs.Line.{said, padded};
+ghost use Rattle.replay_loop.specs.Standing.{in-use, Held, Stepped, Refused, Went};
 use libc::STDOUT_FILENO;
-use replay_calls::Turn;
-use replay_lines::Line;
+use model::Starting;
 
-// The lengths of the three runs in use, the hand, and the position in the buffer.
+// Where the replay stands: the lengths of the three runs in use and the hand; the lines that are behind it, the position in the text, and in the buffer.
 pub struct State {
     pub slots: usize,
     pub counters: usize,
     pub items: usize,
     pub hand: usize,
+    pub number: u64,
+    pub from: usize,
     pub at: usize,
 }
 
-// Refusal 1 leaves the table there was.
-fn refuse_length(out: &mut [u8], state: State) -> State
-    requires { ⌜ Room (state .at) (now out) ⌝ }
-    ensures { λ r. ⌜ Moved state (now (out .entry)) r ⌝ }
+// A refused fresh leaves the table there was.
+fn refuse_fresh(out: &mut [u8], state: State) -> State
+    requires { ⌜ state .at + longest ≤ length (now out) ⌝ }
+    ensures { λ r. ⌜ Refused state (now (out .entry)) (now (out .exit)) r ⌝ }
 {
-    let next = replay_answers::put_refused(out, state.at, 1);
-    let at = replay_shows::with_room(out, next);
+    let at = replay_answers::put_refused(out, state.at, 1);
     State {
         slots: state.slots,
         counters: state.counters,
         items: state.items,
         hand: state.hand,
+        number: state.number,
+        from: state.from,
         at,
     }
 }
 
 // Fresh: the runs are in use from then on as long as it says. One beyond what the program holds is refused as a wrong length is.
 fn start(
+    s: usize,
+    v: usize,
+    i: usize,
     slots: &mut [u32],
     counters: &mut [u32],
     items: &mut [u64],
     out: &mut [u8],
     state: State,
-    s: usize,
-    v: usize,
-    i: usize,
 ) -> State
-    requires { ⌜ Fits (now slots) (now counters) (now items) (now out) state ⌝ }
-    ensures { λ r. ⌜ Fits (now (slots .entry)) (now (counters .entry)) (now (items .entry)) (now (out .entry)) r ⌝ }
+    requires { ⌜ Held (now slots) (now counters) (now items) state × (state .at + longest ≤ length (now out)) ⌝ }
+    ensures { λ r. ⌜ Stepped (starts s v i (in-use (now (slots .entry)) (now (counters .entry)) (now (items .entry)) state)) state r
+        (now (slots .exit)) (now (counters .exit)) (now (items .exit)) (now (out .entry)) (now (out .exit)) ⌝ }
 {
     if slots.len() < s {
-        return refuse_length(out, state);
+        return refuse_fresh(out, state);
     }
     if counters.len() < v {
-        return refuse_length(out, state);
+        return refuse_fresh(out, state);
     }
     if items.len() < i {
-        return refuse_length(out, state);
+        return refuse_fresh(out, state);
     }
-    let said = writing::fresh(&mut slots[..s], &mut counters[..v], &mut items[..i]);
+    let said = starting::fresh(&mut slots[..s], &mut counters[..v], &mut items[..i]);
     match said {
-        model::Starting::Refused(_) => refuse_length(out, state),
-        model::Starting::Started => {
-            let at = replay_shows::put_words(out, state.at, b"fresh");
+        Starting::Refused(_) => refuse_fresh(out, state),
+        Starting::Started => {
+            let at = replay_print::put_line(out, state.at, b"fresh");
             State {
                 slots: s,
                 counters: v,
                 items: i,
                 hand: 0,
+                number: state.number,
+                from: state.from,
                 at,
             }
         }
-    }
-}
-
-// A line that is no call of the table: the hand, a list, a poke, a dump, or nothing. Any other is not understood here.
-fn beside_the_calls(
-    line: Line,
-    number: u64,
-    slots: &mut [u32],
-    counters: &mut [u32],
-    items: &mut [u64],
-    records: &mut [u8],
-    out: &mut [u8],
-    at: usize,
-    hand: usize,
-) -> Turn
-    requires { ⌜ Room at (now out) ⌝ }
-    ensures { λ r. ⌜ Room (r .next) (now (out .entry)) ⌝ }
-{
-    match line {
-        Line::Blank => Turn { next: at, hand },
-        Line::Hand { at: new } => Turn {
-            next: replay_shows::put_words(out, at, b"hand"),
-            hand: new as usize,
-        },
-        Line::List { size } => {
-            let next = replay_shows::list_into(
-                slots,
-                counters,
-                items,
-                records,
-                out,
-                at,
-                size as usize,
-                number,
-            );
-            Turn { next, hand }
-        }
-        Line::PokeSlots { at: i, word } => {
-            let poked = replay_shows::poke32(slots, i, word);
-            Turn {
-                next: replay_shows::tell_poked(out, at, poked),
-                hand,
-            }
-        }
-        Line::PokeCounters { at: i, word } => {
-            let poked = replay_shows::poke32(counters, i, word);
-            Turn {
-                next: replay_shows::tell_poked(out, at, poked),
-                hand,
-            }
-        }
-        Line::PokeItems { at: i, word } => {
-            let poked = replay_shows::poke64(items, i, word);
-            Turn {
-                next: replay_shows::tell_poked(out, at, poked),
-                hand,
-            }
-        }
-        Line::Dump => Turn {
-            next: replay_shows::dump(slots, counters, items, out, at),
-            hand,
-        },
-        _ => Turn {
-            next: replay_shows::not_understood(out, at, number),
-            hand,
-        },
-    }
-}
-
-// A line that makes no fresh table: its call on the table there is, its answer, and the hand afterwards.
-fn on_table(
-    line: Line,
-    number: u64,
-    slots: &mut [u32],
-    counters: &mut [u32],
-    items: &mut [u64],
-    records: &mut [u8],
-    out: &mut [u8],
-    at: usize,
-    hand: usize,
-) -> Turn
-    requires { ⌜ Room at (now out) ⌝ }
-    ensures { λ r. ⌜ Room (r .next) (now (out .entry)) ⌝ }
-{
-    match line {
-        Line::Read {
-            animal,
-            limit,
-            minute,
-        } => {
-            let next = replay_calls::answer_read(
-                slots,
-                counters,
-                items,
-                animal,
-                limit,
-                minute,
-                out,
-                at,
-            );
-            Turn {
-                next: replay_shows::with_room(out, next),
-                hand,
-            }
-        }
-        Line::Serve {
-            animal,
-            limit,
-            minute,
-        } => {
-            let next = replay_calls::answer_serve(
-                slots,
-                counters,
-                items,
-                animal,
-                limit,
-                minute,
-                out,
-                at,
-            );
-            Turn {
-                next: replay_shows::with_room(out, next),
-                hand,
-            }
-        }
-        Line::Set {
-            animal,
-            permission,
-            minute,
-            standing,
-        } => {
-            let next = replay_calls::answer_set(
-                slots,
-                counters,
-                items,
-                animal,
-                permission,
-                minute,
-                standing,
-                out,
-                at,
-            );
-            Turn {
-                next: replay_shows::with_room(out, next),
-                hand,
-            }
-        }
-        Line::CutSet {
-            k,
-            animal,
-            permission,
-            minute,
-            standing,
-        } => {
-            let next = replay_calls::answer_set_cut(
-                slots,
-                counters,
-                items,
-                animal,
-                permission,
-                minute,
-                standing,
-                k,
-                out,
-                at,
-            );
-            Turn {
-                next: replay_shows::with_room(out, next),
-                hand,
-            }
-        }
-        Line::Delete { animal } => {
-            let next = replay_calls::answer_delete(slots, counters, items, animal, out, at);
-            Turn {
-                next: replay_shows::with_room(out, next),
-                hand,
-            }
-        }
-        Line::CutDelete { k, animal } => {
-            let next = replay_calls::answer_delete_cut(slots, counters, items, animal, k, out, at);
-            Turn {
-                next: replay_shows::with_room(out, next),
-                hand,
-            }
-        }
-        Line::Evict => {
-            let turn = replay_calls::answer_evict(slots, counters, items, hand, out, at);
-            Turn {
-                next: replay_shows::with_room(out, turn.next),
-                hand: turn.hand,
-            }
-        }
-        Line::CutEvict { k } => {
-            let turn = replay_calls::answer_evict_cut(slots, counters, items, hand, k, out, at);
-            Turn {
-                next: replay_shows::with_room(out, turn.next),
-                hand: turn.hand,
-            }
-        }
-        _ => beside_the_calls(line, number, slots, counters, items, records, out, at, hand),
     }
 }
 
 // One line, on the runs in use.
 fn step(
-    line: Line,
-    number: u64,
+    row: usize,
+    numbers: &[u64],
     slots: &mut [u32],
     counters: &mut [u32],
     items: &mut [u64],
@@ -282,115 +92,185 @@ fn step(
     out: &mut [u8],
     state: State,
 ) -> State
-    requires { ⌜ Fits (now slots) (now counters) (now items) (now out) state ⌝ }
-    ensures { λ r. ⌜ Fits (now (slots .entry)) (now (counters .entry)) (now (items .entry)) (now (out .entry)) r ⌝ }
+    requires { ⌜ Held (now slots) (now counters) (now items) state × (state .at + longest ≤ length (now out)) ⌝ }
+    requires { ⌜ (length (now numbers) ≡ 8) × (length (now records) ≡ 81920) ⌝ }
+    ensures { λ r. ⌜ Stepped (meaning row (state .number) (now (numbers .entry)) (in-use (now (slots .entry)) (now (counters .entry)) (now (items .entry)) state)) state r
+        (now (slots .exit)) (now (counters .exit)) (now (items .exit)) (now (out .entry)) (now (out .exit)) ⌝ }
 {
-    let Line::Fresh {
-        slots: a,
-        counters: b,
-        items: c,
-    } = line
-    else {
-        let s = state.slots;
-        let v = state.counters;
-        let i = state.items;
-        let turn = on_table(
-            line,
-            number,
-            &mut slots[..s],
-            &mut counters[..v],
-            &mut items[..i],
-            records,
-            out,
-            state.at,
-            state.hand,
-        );
-        return State {
-            slots: s,
-            counters: v,
-            items: i,
-            hand: turn.hand,
-            at: turn.next,
-        };
-    };
-    start(
-        slots,
-        counters,
-        items,
+    if row == 1 {
+        return start(numbers[0] as usize, numbers[1] as usize, numbers[2] as usize, slots, counters, items, out, state);
+    }
+    let s = state.slots;
+    let v = state.counters;
+    let i = state.items;
+    let turn = replay_turns::on_table(
+        row,
+        state.number,
+        numbers,
+        &mut slots[..s],
+        &mut counters[..v],
+        &mut items[..i],
+        records,
         out,
-        state,
-        a as usize,
-        b as usize,
-        c as usize,
+        state.at,
+        state.hand,
+    );
+    State {
+        slots: s,
+        counters: v,
+        items: i,
+        hand: turn.hand,
+        number: state.number,
+        from: state.from,
+        at: turn.next,
+    }
+}
+
+// The row that a line follows, and its numbers. The rows are those of the language, in its order.
+fn row_of(line: &[u8], numbers: &mut [u64]) -> usize
+    ensures { λ r. ⌜ (r ≡ said language (now (line .entry)) .row) × (now (numbers .exit) ≡ padded (length (now (numbers .entry))) (said language (now (line .entry)) .numbers)) ⌝ }
+{
+    replay_lines::row_of(
+        b"\nfresh N N N\nset N P N\nset N P N standing\nread N N N\nserve N N N\ndelete N\nevict\ncut N set N P N\ncut N set N P N standing\ncut N delete N\ncut N evict\nhand N\nlist N\npoke slots N N\npoke counters N N\npoke items N N\ndump\n",
+        line,
+        numbers,
     )
 }
 
-// Where a line ends, and where the next one starts.
-struct Piece {
-    end: usize,
-    next: usize,
-}
-
-fn piece_at(text: &[u8], from: usize) -> Piece
-    requires { ⌜ from < length (now text) ⌝ }
-    ensures { λ r. ⌜ PieceAt from (now (text .entry)) r ⌝ }
+// The next line of the text.
+fn next_line(
+    calls: &[u8],
+    slots: &mut [u32],
+    counters: &mut [u32],
+    items: &mut [u64],
+    records: &mut [u8],
+    out: &mut [u8],
+    state: State,
+) -> State
+    requires { ⌜ Held (now slots) (now counters) (now items) state × (state .at + longest ≤ length (now out)) ⌝ }
+    requires { ⌜ (state .from < length (now calls)) × (state .number ≤ state .from) × (length (now records) ≡ 81920) ⌝ }
+    ensures { λ r. ⌜ Went (now (calls .entry)) (now (slots .entry)) (now (counters .entry)) (now (items .entry)) (now (out .entry)) state
+        (now (slots .exit)) (now (counters .exit)) (now (items .exit)) (now (out .exit)) r ⌝ }
 {
-    let end = replay_words::line_end(text, from);
-    if end < text.len() {
-        return Piece { end, next: end + 1 };
-    }
-    Piece { end, next: end }
+    let from = state.from;
+    let piece = replay_words::piece_at(calls, from);
+    let end = piece.end;
+    let mut numbers = [0u64; 8];
+    let row = row_of(&calls[from..end], &mut numbers);
+    let here = State {
+        slots: state.slots,
+        counters: state.counters,
+        items: state.items,
+        hand: state.hand,
+        number: state.number + 1,
+        from: piece.next,
+        at: state.at,
+    };
+    step(row, &numbers, slots, counters, items, records, out, here)
 }
 
-// All lines of a text; how many they are, each at least one byte.
-fn replay_lines(
-    text: &[u8],
+// Lines until the buffer may not hold the next answer, or the text ends: at least one.
+fn portion(
+    calls: &[u8],
+    slots: &mut [u32],
+    counters: &mut [u32],
+    items: &mut [u64],
+    records: &mut [u8],
+    out: &mut [u8],
+    start: State,
+) -> State
+    requires { ⌜ Held (now slots) (now counters) (now items) start × (start .at ≡ 0) × (longest ≤ length (now out)) ⌝ }
+    requires { ⌜ (start .from < length (now calls)) × (start .number ≤ start .from) × (length (now records) ≡ 81920) ⌝ }
+    ensures { λ r. ⌜ Went (now (calls .entry)) (now (slots .entry)) (now (counters .entry)) (now (items .entry)) (now (out .entry)) start
+        (now (slots .exit)) (now (counters .exit)) (now (items .exit)) (now (out .exit)) r ⌝ }
+    ensures { λ r. ⌜ (start .from < r .from) × (r .at ≤ length (now (out .entry))) ⌝ }
+{
+    let mut state = start;
+    while state.from < calls.len() {
+        if out.len() - state.at < 294912 {
+            return state;
+        }
+        state = next_line(calls, slots, counters, items, records, out, state);
+    }
+    state
+}
+
+// The next bytes of the answers go out; how many have gone out by then.
+fn hand_over(portion: &[u8], calls: &[u8], written: u64) -> u64
+    requires { ⌜ now portion ≡ take (length (now portion)) (drop written (answers (now calls))) ⌝ }
+    requires { ⌜ written + length (now portion) ≤ 618475290624 ⌝ }
+    ensures { λ r. ⌜ r ≡ written + length (now (portion .entry)) ⌝ }
+{
+    io::write_all(STDOUT_FILENO, portion);
+    written + portion.len() as u64
+}
+
+// All portions of a text's answers; how many bytes they have.
+fn portions(
+    calls: &[u8],
     slots: &mut [u32],
     counters: &mut [u32],
     items: &mut [u64],
     records: &mut [u8],
     out: &mut [u8],
 ) -> u64
-    requires { ⌜ 96 ≤ length (now out) ⌝ }
-    ensures { λ r. ⌜ r ≤ length (now (text .entry)) ⌝ }
+    requires { ⌜ (length (now slots) ≡ 8192) × (length (now counters) ≡ 1024) × (length (now items) ≡ 4096) ⌝ }
+    requires { ⌜ (length (now records) ≡ 81920) × (longest ≤ length (now out)) × (length (now calls) ≤ 2097152) ⌝ }
+    ensures { λ r. ⌜ r ≡ length (answers (now (calls .entry))) ⌝ }
 {
     let mut state = State {
         slots: 0,
         counters: 0,
         items: 0,
         hand: 0,
+        number: 0,
+        from: 0,
         at: 0,
     };
-    let mut from: usize = 0;
-    let mut number: u64 = 0;
-    while from < text.len() {
-        let piece = piece_at(text, from);
-        let end = piece.end;
-        let line = replay_lines::parse_line(&text[from..end]);
-        number += 1;
-        state = step(line, number, slots, counters, items, records, out, state);
-        from = piece.next;
+    let mut written: u64 = 0;
+    while state.from < calls.len() {
+        state = portion(calls, slots, counters, items, records, out, state);
+        let at = state.at;
+        written = hand_over(&out[..at], calls, written);
+        state = State {
+            slots: state.slots,
+            counters: state.counters,
+            items: state.items,
+            hand: state.hand,
+            number: state.number,
+            from: state.from,
+            at: 0,
+        };
     }
-    io::write_all(STDOUT_FILENO, &out[..state.at]);
-    number
+    written
 }
 
-// The bytes that a list may fill: document 01's 20 bytes for each of 4,096 places.
-fn record_bytes() -> [u8; 81920] {
+// The bytes that a list may fill: document 01's 20 bytes for each of 4,096 places. It says nothing of its elements, so that no proof counts them; nor do the next four.
+fn record_bytes() -> [u8; 81920]
+    ensures { λ r. ⌜ 81920 ≡ length r ⌝ }
+{
     [0; 81920]
 }
 
-// Replays a text on a table of the program's own; how many lines it has.
-pub fn replay(text: &[u8]) -> u64
-    ensures { λ r. ⌜ r ≤ length (now (text .entry)) ⌝ }
+// A portion: room for one answer more while it is not full.
+fn portion_bytes() -> [u8; 299008]
+    ensures { λ r. ⌜ 299008 ≡ length r ⌝ }
+{
+    [0; 299008]
+}
+
+// Replays a text on a table of the program's own; how many bytes it answers.
+pub fn replay(calls: &[u8]) -> u64
+    requires { ⌜ length (now calls) ≤ 2097152 ⌝ }
+    ensures { λ r. ⌜ r ≡ length (answers (now (calls .entry))) ⌝ }
 {
     let mut slots = [0u32; 8192];
     let mut counters = [0u32; 1024];
     let mut items = [0u64; 4096];
     let mut records = record_bytes();
-    let mut out = io::large_buffer();
-    replay_lines(
-        text,
+    let mut out = portion_bytes();
+    portions(
+        calls,
         &mut slots,
         &mut counters,
         &mut items,

@@ -1,2 +1,2 @@
 pub mod Poke
-pub mod Front
+pub mod Listed

@@ -1,0 +1,61 @@
+-- Where the replay stands, in the program's own memory. Assumes nothing.
+use Prim.Native.Nat.{ℕ, _+_, _*_, _≤_, _<_}
+use mathlib.Core.Path.{_≡_}
+use mathlib.Core.List.{List, _++_}
+use lib.ListN.{length, take, drop}
+use Rattle.model.specs.Memory.{mem}
+use Rattle.buffer.specs.Put.{Put}
+use Rattle.model.specs.Answers.{refused}
+use Rattle.replay_words.specs.Words.{lines}
+use Rattle.replay_answers.specs.Text.{text}
+use Rattle.replay_turns.specs.World.{World, Reply, world, longest}
+use Rattle.replay_loop.specs.Replayed.{replayed}
+use Rattle.replay_loop.specs.declared.State.{State}
+
+-- the world: the fronts of the program's runs that are in use, and the hand
+abbrev pub in-use : List ℕ → List ℕ → List ℕ → State → World
+in-use slots counters items s = world (mem (take (s .slots) slots) (take (s .counters) counters) (take (s .items) items)) (s .hand)
+
+-- the answers that are still to come
+abbrev pub coming : List ℕ → List ℕ → List ℕ → List ℕ → State → List ℕ
+coming calls slots counters items s = replayed (s .number) (in-use slots counters items s) (lines (drop (s .from) calls))
+
+-- the program's runs, and what is in use of them
+pub record Held (slots counters items : List ℕ) (s : State) : Type 0 where
+  pub all-slots : length slots ≡ 8192
+  pub all-counters : length counters ≡ 1024
+  pub all-items : length items ≡ 4096
+  pub slots-in : s .slots ≤ 8192
+  pub counters-in : s .counters ≤ 1024
+  pub items-in : s .items ≤ 4096
+
+-- a step: the reply's text stands behind what was in the buffer, and its world is in use; text and number are as they were
+pub record Stepped (y : Reply) (before after : State) (slots counters items out out′ : List ℕ) : Type 0 where
+  pub put : Put (y .text) (before .at) out out′ (after .at)
+  pub near : after .at ≤ before .at + longest
+  pub world-is : in-use slots counters items after ≡ y .world
+  pub held : Held slots counters items after
+  pub same-number : after .number ≡ before .number
+  pub same-from : after .from ≡ before .from
+
+-- a refused fresh: its line, and else all as it was
+pub record Refused (before : State) (out out′ : List ℕ) (after : State) : Type 0 where
+  pub put : Put (text (refused 1)) (before .at) out out′ (after .at)
+  pub near : after .at ≤ before .at + longest
+  pub same-slots : after .slots ≡ before .slots
+  pub same-counters : after .counters ≡ before .counters
+  pub same-items : after .items ≡ before .items
+  pub same-hand : after .hand ≡ before .hand
+  pub same-number : after .number ≡ before .number
+  pub same-from : after .from ≡ before .from
+
+-- some lines were answered: what is in the buffer and what is still to come is as before
+pub record Went (calls slots counters items out : List ℕ) (s : State) (slots′ counters′ items′ out′ : List ℕ) (s′ : State) : Type 0 where
+  pub held : Held slots′ counters′ items′ s′
+  pub inside : s′ .from ≤ length calls
+  pub counted : s′ .number ≤ s′ .from
+  pub onward : s .number ≤ s′ .number
+  pub forward : s .number < s′ .number → s .from < s′ .from
+  pub few : s′ .at + longest * s .number ≤ s .at + longest * s′ .number
+  pub long : length out′ ≡ length out
+  pub answered : take (s′ .at) out′ ++ coming calls slots′ counters′ items′ s′ ≡ take (s .at) out ++ coming calls slots counters items s

@@ -1,0 +1,120 @@
+-- What each line means: the table of the replay program's language. Assumes nothing.
+use Prim.Native.Nat.{ℕ, zero, suc, _/_, _%_, _^_}
+use Prim.Native.String.{String}
+use mathlib.Core.Bool.{Bool, true, false, _&&_}
+use mathlib.Core.List.{List, [], _∷_, _++_}
+use lib.ListN.{getD}
+use lib.Dec.{leb}
+use Rattle.model.specs.Choice.{choose}
+use Rattle.model.specs.Memory.{Mem, mem}
+use Rattle.model.specs.Shape.{four, shape, good-lengths, fresh-memory}
+use Rattle.model.specs.Calling.{Call, grant, read, serve, set-animal, delete, evict, write-list}
+use Rattle.model.specs.Answers.{Answer, started, refused, hand-back}
+use Rattle.model.specs.Lent.{lent-after, lent-call, lent-cut}
+use Rattle.replay_print.specs.Text.{bytes}
+use Rattle.replay_print.specs.Print.{line}
+use Rattle.replay_answers.specs.Text.{text, dump, not-understood, poke-told}
+use Rattle.replay_shows.specs.Poke.{can-poke, poked}
+use Rattle.replay_turns.specs.World.{World, Reply, world, reply}
+
+-- it only says something
+abbrev pub says : List ℕ → World → Reply
+says t w = record { text = t; world = w }
+
+abbrev pub answer : World → Call → Answer
+answer w c = lent-call four (w .memory) c .answer
+
+-- a call that only reads
+abbrev pub asks : Call → World → Reply
+asks c w = says (text (answer w c)) w
+
+-- a call, and one that is cut behind its first k stores: it answers as the whole one
+abbrev pub calls : Call → World → Reply
+calls c w = reply (text (answer w c)) (lent-after four (w .memory) c) (w .hand)
+
+abbrev pub cuts : ℕ → Call → World → Reply
+cuts k c w = reply (text (answer w c)) (lent-cut four k (w .memory) c) (w .hand)
+
+-- evict takes the hand and gives it back
+abbrev pub turns : World → Reply
+turns w = reply (text (answer w (evict (w .hand)))) (lent-after four (w .memory) (evict (w .hand))) (hand-back (w .hand) (answer w (evict (w .hand))))
+
+abbrev pub cut-turns : ℕ → World → Reply
+cut-turns k w = reply (text (answer w (evict (w .hand)))) (lent-cut four k (w .memory) (evict (w .hand))) (hand-back (w .hand) (answer w (evict (w .hand))))
+
+-- fresh: a table of these lengths, all zero, and the hand at 0, if the program holds as much and the lengths are good; else the table there was
+abbrev pub holds : ℕ → ℕ → ℕ → Bool
+holds s v i = leb s 8192 && (leb v 1024 && leb i 4096)
+
+abbrev pub starts : ℕ → ℕ → ℕ → World → Reply
+starts s v i w =
+    choose (holds s v i && good-lengths four s v i) (reply (text started) (fresh-memory (shape four (s / 4) v (i / 4))) 0)
+    (says (text (refused 1)) w)
+
+-- the hand is given
+abbrev pub hands : ℕ → World → Reply
+hands h w = reply (line (bytes "hand")) (w .memory) h
+
+-- the list into a buffer of that size; line n is not understood if the program has none so large
+abbrev pub lists : ℕ → ℕ → World → Reply
+lists n size w = choose (leb size 81920) (asks (write-list size) w) (says (not-understood n) w)
+
+-- a poke of one of the runs
+abbrev pub pokes-slots : ℕ → ℕ → World → Reply
+pokes-slots i x w =
+    reply (poke-told (can-poke 4294967295 i x (w .memory .slots)))
+    (mem (poked 4294967295 i x (w .memory .slots)) (w .memory .counters) (w .memory .items)) (w .hand)
+
+abbrev pub pokes-counters : ℕ → ℕ → World → Reply
+pokes-counters i x w =
+    reply (poke-told (can-poke 4294967295 i x (w .memory .counters)))
+    (mem (w .memory .slots) (poked 4294967295 i x (w .memory .counters)) (w .memory .items)) (w .hand)
+
+abbrev pub pokes-items : ℕ → ℕ → World → Reply
+pokes-items i x w =
+    reply (poke-told (can-poke 18446744073709551615 i x (w .memory .items)))
+    (mem (w .memory .slots) (w .memory .counters) (poked 18446744073709551615 i x (w .memory .items))) (w .hand)
+
+-- a row: what a line says, and what it means, by its number in the text and the numbers in it
+pub record Row : Type 0 where
+  pub says : String
+  pub means : ℕ → (ℕ → ℕ) → World → Reply
+
+abbrev pub row : String → (ℕ → (ℕ → ℕ) → World → Reply) → Row
+row s f = record { says = s; means = f }
+
+-- a P is below 2^32, so the remainder is the number itself
+abbrev pub permission : ℕ → ℕ
+permission p = p % 2 ^ 32
+
+-- the language: N a number, P a permission
+abbrev pub rows : List Row
+rows =
+    row "" (λ n x w. says [] w)
+    ∷ row "fresh N N N" (λ n x. starts (x 0) (x 1) (x 2))
+    ∷ row "set N P N" (λ n x. calls (set-animal (grant (x 0) (permission (x 1)) (x 2) false)))
+    ∷ row "set N P N standing" (λ n x. calls (set-animal (grant (x 0) (permission (x 1)) (x 2) true)))
+    ∷ row "read N N N" (λ n x. asks (read (x 0) (x 1) (x 2)))
+    ∷ row "serve N N N" (λ n x. calls (serve (x 0) (x 1) (x 2)))
+    ∷ row "delete N" (λ n x. calls (delete (x 0)))
+    ∷ row "evict" (λ n x. turns)
+    ∷ row "cut N set N P N" (λ n x. cuts (x 0) (set-animal (grant (x 1) (permission (x 2)) (x 3) false)))
+    ∷ row "cut N set N P N standing" (λ n x. cuts (x 0) (set-animal (grant (x 1) (permission (x 2)) (x 3) true)))
+    ∷ row "cut N delete N" (λ n x. cuts (x 0) (delete (x 1)))
+    ∷ row "cut N evict" (λ n x. cut-turns (x 0))
+    ∷ row "hand N" (λ n x. hands (x 0))
+    ∷ row "list N" (λ n x. lists n (x 0))
+    ∷ row "poke slots N N" (λ n x. pokes-slots (x 0) (x 1))
+    ∷ row "poke counters N N" (λ n x. pokes-counters (x 0) (x 1))
+    ∷ row "poke items N N" (λ n x. pokes-items (x 0) (x 1))
+    ∷ row "dump" (λ n x w. says (dump (w .memory)) w)
+    ∷ []
+
+-- what line n means that follows row r with these numbers; with no row it is not understood
+abbrev pub meant : List Row → ℕ → ℕ → List ℕ → World → Reply
+meant [] r n xs w = says (not-understood n) w
+meant (t ∷ ts) zero n xs w = t .means n (λ i. getD xs i 0) w
+meant (t ∷ ts) (suc r) n xs w = meant ts r n xs w
+
+abbrev pub meaning : ℕ → ℕ → List ℕ → World → Reply
+meaning r n xs w = meant rows r n xs w

@@ -1,0 +1,222 @@
+// One line of a replay on the table there is: the row it follows says which call it makes.
+ghost use mathlib.Core.Path.{_≡_};
+ghost use mathlib.Core.Logic.{_≢_};
+ghost use Prim.Native.Nat.{_+_, _≤_};
+ghost use lib.ListN.{length};
+ghost use Rattle.model.specs.Memory.{mem};
+ghost use Rattle.model.specs.Calling.{grant};
+ghost use Rattle.replay_turns.specs.World.{Ample, Replied, longest, world};
+ghost use Rattle.replay_turns.specs.Meaning.{lists, meaning, permission};
+use model::Grant;
+use replay_calls::Turn;
+
+// What a set line grants.
+fn granted(animal: u64, p: u64, minute: u64, standing: bool) -> Grant
+    ensures { λ r. ⌜ r ≡ grant animal (permission p) minute standing ⌝ }
+{
+    Grant {
+        animal,
+        permission: (p % 4294967296) as u32,
+        minute,
+        standing,
+    }
+}
+
+// Rows 2 to 7: set, read, serve, delete, evict.
+fn whole_call(
+    row: usize,
+    number: u64,
+    numbers: &[u64],
+    slots: &mut [u32],
+    counters: &mut [u32],
+    items: &mut [u64],
+    out: &mut [u8],
+    at: usize,
+    hand: usize,
+) -> Turn
+    requires { ⌜ (2 ≤ row) × (row ≤ 7) × (length (now numbers) ≡ 8) ⌝ }
+    requires { ⌜ Ample (mem (now slots) (now counters) (now items)) at (now out) ⌝ }
+    ensures { λ r. ⌜ Replied (meaning row number (now (numbers .entry)) (world (mem (now (slots .entry)) (now (counters .entry)) (now (items .entry))) hand))
+        (mem (now (slots .exit)) (now (counters .exit)) (now (items .exit))) at (now (out .entry)) (now (out .exit)) r ⌝ }
+{
+    let a = numbers[0];
+    let b = numbers[1];
+    let c = numbers[2];
+    match row {
+        2 => Turn {
+            next: replay_calls::answer_set(slots, counters, items, granted(a, b, c, false), out, at),
+            hand,
+        },
+        3 => Turn {
+            next: replay_calls::answer_set(slots, counters, items, granted(a, b, c, true), out, at),
+            hand,
+        },
+        4 => Turn {
+            next: replay_calls::answer_read(slots, counters, items, a, b, c, out, at),
+            hand,
+        },
+        5 => Turn {
+            next: replay_calls::answer_serve(slots, counters, items, a, b, c, out, at),
+            hand,
+        },
+        6 => Turn {
+            next: replay_calls::answer_delete(slots, counters, items, a, out, at),
+            hand,
+        },
+        _ => replay_calls::answer_evict(slots, counters, items, hand, out, at),
+    }
+}
+
+// Rows 8 to 11: a call that is cut behind its first k stores.
+fn cut_call(
+    row: usize,
+    number: u64,
+    numbers: &[u64],
+    slots: &mut [u32],
+    counters: &mut [u32],
+    items: &mut [u64],
+    out: &mut [u8],
+    at: usize,
+    hand: usize,
+) -> Turn
+    requires { ⌜ (8 ≤ row) × (row ≤ 11) × (length (now numbers) ≡ 8) ⌝ }
+    requires { ⌜ Ample (mem (now slots) (now counters) (now items)) at (now out) ⌝ }
+    ensures { λ r. ⌜ Replied (meaning row number (now (numbers .entry)) (world (mem (now (slots .entry)) (now (counters .entry)) (now (items .entry))) hand))
+        (mem (now (slots .exit)) (now (counters .exit)) (now (items .exit))) at (now (out .entry)) (now (out .exit)) r ⌝ }
+{
+    let k = numbers[0];
+    let a = numbers[1];
+    let b = numbers[2];
+    let c = numbers[3];
+    match row {
+        8 => Turn {
+            next: replay_calls::answer_set_cut(slots, counters, items, granted(a, b, c, false), k, out, at),
+            hand,
+        },
+        9 => Turn {
+            next: replay_calls::answer_set_cut(slots, counters, items, granted(a, b, c, true), k, out, at),
+            hand,
+        },
+        10 => Turn {
+            next: replay_calls::answer_delete_cut(slots, counters, items, a, k, out, at),
+            hand,
+        },
+        _ => replay_calls::answer_evict_cut(slots, counters, items, hand, k, out, at),
+    }
+}
+
+// The list into the bytes lent for it, if there are so many.
+fn list_line(
+    number: u64,
+    size: u64,
+    slots: &[u32],
+    counters: &[u32],
+    items: &[u64],
+    records: &mut [u8],
+    out: &mut [u8],
+    at: usize,
+    hand: usize,
+) -> Turn
+    requires { ⌜ (length (now records) ≡ 81920) × (at + longest ≤ length (now out)) ⌝ }
+    ensures { λ r. ⌜ Replied (lists number size (world (mem (now (slots .entry)) (now (counters .entry)) (now (items .entry))) hand))
+        (mem (now (slots .entry)) (now (counters .entry)) (now (items .entry))) at (now (out .entry)) (now (out .exit)) r ⌝ }
+{
+    if 81920 < size {
+        return Turn {
+            next: replay_answers::put_not_understood(out, at, number),
+            hand,
+        };
+    }
+    Turn {
+        next: replay_shows::put_list(slots, counters, items, records, size as usize, out, at),
+        hand,
+    }
+}
+
+// The rows from 12 on: the hand, a list, a poke, a dump, and a line that follows no row.
+fn beside_the_calls(
+    row: usize,
+    number: u64,
+    numbers: &[u64],
+    slots: &mut [u32],
+    counters: &mut [u32],
+    items: &mut [u64],
+    records: &mut [u8],
+    out: &mut [u8],
+    at: usize,
+    hand: usize,
+) -> Turn
+    requires { ⌜ (12 ≤ row) × (length (now numbers) ≡ 8) × (length (now records) ≡ 81920) ⌝ }
+    requires { ⌜ Ample (mem (now slots) (now counters) (now items)) at (now out) ⌝ }
+    ensures { λ r. ⌜ Replied (meaning row number (now (numbers .entry)) (world (mem (now (slots .entry)) (now (counters .entry)) (now (items .entry))) hand))
+        (mem (now (slots .exit)) (now (counters .exit)) (now (items .exit))) at (now (out .entry)) (now (out .exit)) r ⌝ }
+{
+    let a = numbers[0];
+    let b = numbers[1];
+    match row {
+        12 => Turn {
+            next: replay_print::put_line(out, at, b"hand"),
+            hand: a as usize,
+        },
+        13 => list_line(number, a, slots, counters, items, records, out, at, hand),
+        14 => {
+            let poked = replay_shows::poke32(slots, a, b);
+            Turn {
+                next: replay_answers::put_poked(out, at, poked),
+                hand,
+            }
+        }
+        15 => {
+            let poked = replay_shows::poke32(counters, a, b);
+            Turn {
+                next: replay_answers::put_poked(out, at, poked),
+                hand,
+            }
+        }
+        16 => {
+            let poked = replay_shows::poke64(items, a, b);
+            Turn {
+                next: replay_answers::put_poked(out, at, poked),
+                hand,
+            }
+        }
+        17 => Turn {
+            next: replay_answers::put_dump(out, at, slots, counters, items),
+            hand,
+        },
+        _ => Turn {
+            next: replay_answers::put_not_understood(out, at, number),
+            hand,
+        },
+    }
+}
+
+// A line that makes no fresh table: its call on the table there is, its answer, and the hand afterwards.
+pub fn on_table(
+    row: usize,
+    number: u64,
+    numbers: &[u64],
+    slots: &mut [u32],
+    counters: &mut [u32],
+    items: &mut [u64],
+    records: &mut [u8],
+    out: &mut [u8],
+    at: usize,
+    hand: usize,
+) -> Turn
+    requires { ⌜ (row ≢ 1) × (length (now numbers) ≡ 8) × (length (now records) ≡ 81920) ⌝ }
+    requires { ⌜ Ample (mem (now slots) (now counters) (now items)) at (now out) ⌝ }
+    ensures { λ r. ⌜ Replied (meaning row number (now (numbers .entry)) (world (mem (now (slots .entry)) (now (counters .entry)) (now (items .entry))) hand))
+        (mem (now (slots .exit)) (now (counters .exit)) (now (items .exit))) at (now (out .entry)) (now (out .exit)) r ⌝ }
+{
+    if row == 0 {
+        return Turn { next: at, hand };
+    }
+    if row <= 7 {
+        return whole_call(row, number, numbers, slots, counters, items, out, at, hand);
+    }
+    if row <= 11 {
+        return cut_call(row, number, numbers, slots, counters, items, out, at, hand);
+    }
+    beside_the_calls(row, number, numbers, slots, counters, items, records, out, at, hand)
+}
