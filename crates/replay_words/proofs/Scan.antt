@@ -2,14 +2,14 @@
 use Prim.Native.Nat.{ℕ, suc, _+_, _-_, _≤_, _<_}
 use native.Mathlib.Numerals.{add-one}
 use native.Mathlib.Omega.{arith}
-use mathlib.Core.Path.{_≡_, refl, sym, ap, ap₂, _∙_}
+use mathlib.Core.Path.{_≡_, refl, sym, ap, ap₂, subst, _∙_}
 use mathlib.Core.Logic.{_≢_}
-use mathlib.Core.Bool.{Bool, true, false, not}
+use mathlib.Core.Bool.{Bool, true, false, not, _||_}
 use mathlib.Core.List.{List, [], _∷_}
 use lib.ListN.{length, getD, take, drop, drop-of-length-le}
 use lib.Seq.{drop-cons, drop-drop}
 use lib.Dec.{eqb}
-use borrow.Author.Tests.{eq-eqb, ne-eqb, eqb-true, eqb-false}
+use borrow.Author.Tests.{eqb-true, eqb-false}
 use Rattle.model.specs.Choice.{choose}
 use Rattle.replay_words.specs.Words.{before, filled, is-gap, is-no-gap, joined, pieces, words}
 use Rattle.replay_words.specs.Cursor.{First, NextWord, none-left}
@@ -41,39 +41,23 @@ pub seek-first : {f : ℕ → Bool} {bs : List ℕ} {at : ℕ} → at ≤ length
 seek-first h = record { inside = h; ahead = refl }
 
 module _ {f : ℕ → Bool} {bs : List ℕ} {at i : ℕ} (s : Seeking f bs at i) where
-  pub seek-found : i < length bs → f (getD bs i 0) ≡ true → First f bs at i
-  seek-found h e =
-      record { first = omega (arith, s .ahead, ap length (before-here f bs i h e)); inside = s .inside }
+  module _ {t : Bool} (h : i < length bs) (g : t ≡ f (getD bs i 0)) where
+    pub seek-found : t ≡ true → First f bs at i
+    seek-found e = record { first = omega (arith, s .ahead, ap length (before-here f bs i h (sym g ∙ e))); inside = s .inside }
 
-  pub seek-more : i < length bs → f (getD bs i 0) ≡ false → Seeking f bs at (i + 1)
-  seek-more h e =
-      record { inside = omega arith; ahead = omega (arith, s .ahead, ap length (before-next f bs i h e)) }
+    pub seek-more : t ≡ false → Seeking f bs at (i + 1)
+    seek-more e = record { inside = omega arith; ahead = omega (arith, s .ahead, ap length (before-next f bs i h (sym g ∙ e))) }
 
   pub seek-end : length bs ≤ i → First f bs at i
   seek-end h = record { first = omega (arith, s .ahead, ap length (before-end f bs i h)); inside = s .inside }
 
--- for one byte
-module _ (n : ℕ) {bs : List ℕ} {at i : ℕ} (s : Seeking (λ b. eqb b n) bs at i) (h : i < length bs) where
-  pub byte-found : getD bs i 0 ≡ n → First (λ b. eqb b n) bs at i
-  byte-found e = seek-found s h (eq-eqb (getD bs i 0) n e)
-
-  pub byte-more : getD bs i 0 ≢ n → Seeking (λ b. eqb b n) bs at (i + 1)
-  byte-more e = seek-more s h (ne-eqb (getD bs i 0) n e)
-
--- for a gap, and for a word
-module _ {bs : List ℕ} {at i : ℕ} {t : Bool} (s : Seeking is-gap bs at i) (h : i < length bs) (g : t ≡ is-gap (getD bs i 0)) where
-  pub gap-found : t ≡ true → First is-gap bs at i
-  gap-found e = seek-found s h (sym g ∙ e)
-
-  pub gap-more : t ≡ false → Seeking is-gap bs at (i + 1)
-  gap-more e = seek-more s h (sym g ∙ e)
-
-module _ {bs : List ℕ} {at i : ℕ} {t : Bool} (s : Seeking is-no-gap bs at i) (h : i < length bs) (g : t ≡ is-gap (getD bs i 0)) where
-  pub word-found : not t ≡ true → First is-no-gap bs at i
-  word-found e = seek-found s h (ap not (sym g) ∙ e)
-
-  pub word-more : not t ≡ false → Seeking is-no-gap bs at (i + 1)
-  word-more e = seek-more s h (ap not (sym g) ∙ e)
+-- one byte twice is one byte
+pub first-twice : (n : ℕ) {bs : List ℕ} {at r : ℕ} → First (λ b. eqb b n || eqb b n) bs at r → First (λ b. eqb b n) bs at r
+first-twice n {bs} {at} {r} = subst (λ (f : ℕ → Bool). First f bs at r) λ i b. twice (eqb b n) i
+  where
+    twice : (t : Bool) → (t || t) ≡ t
+    twice true = refl
+    twice false = refl
 
 -- the bytes before are the first ones
 pub before-take : (f : ℕ → Bool) (bs : List ℕ) → take (length (before f bs)) bs ≡ before f bs

@@ -2,42 +2,47 @@
 ghost use mathlib.Core.Path.{_≡_};
 ghost use Prim.Native.Nat.{_≤_};
 ghost use lib.ListN.{length, drop};
-ghost use Rattle.replay_words.specs.Words.{is-end, is-comment, is-gap, is-no-gap, words, same, number};
+ghost use Rattle.replay_words.specs.Words.{sought, is-end, is-comment, is-gap, is-no-gap, words, same, number};
 ghost use Rattle.replay_words.specs.Cursor.{First, NextWord, told, none-left};
+
+fn is_sought(c: u8, a: u8, b: u8, wanted: bool) -> bool
+    ensures { λ r. ⌜ r ≡ sought a b wanted c ⌝ }
+{
+    let found = (c == a) | (c == b);
+    if wanted {
+        return found;
+    }
+    !found
+}
+
+// The first byte at or after `at` that is one of two, or that is neither if they are not wanted; or the length.
+fn first(text: &[u8], at: usize, a: u8, b: u8, wanted: bool) -> usize
+    requires { ⌜ at ≤ length (now text) ⌝ }
+    ensures { λ r. ⌜ First (sought a b wanted) (now (text .entry)) at r ⌝ }
+{
+    let mut i = at;
+    while i < text.len() {
+        if is_sought(text[i], a, b, wanted) {
+            return i;
+        }
+        i += 1;
+    }
+    i
+}
 
 // The first LF at or after `at`, or the length.
 pub fn line_end(text: &[u8], at: usize) -> usize
     requires { ⌜ at ≤ length (now text) ⌝ }
     ensures { λ r. ⌜ First is-end (now (text .entry)) at r ⌝ }
 {
-    let mut i = at;
-    while i < text.len() {
-        if text[i] == b'\n' {
-            return i;
-        }
-        i += 1;
-    }
-    i
+    first(text, at, b'\n', b'\n', true)
 }
 
 // The first comment sign, or the length.
 pub fn comment_start(text: &[u8]) -> usize
     ensures { λ r. ⌜ First is-comment (now (text .entry)) 0 r ⌝ }
 {
-    let mut i: usize = 0;
-    while i < text.len() {
-        if text[i] == b'#' {
-            return i;
-        }
-        i += 1;
-    }
-    i
-}
-
-fn is_space_or_tab(b: u8) -> bool
-    ensures { λ r. ⌜ r ≡ is-gap b ⌝ }
-{
-    (b == b' ') | (b == b'\t')
+    first(text, 0, b'#', b'#', true)
 }
 
 // The first byte at or after `at` that is in a word, or the length.
@@ -45,14 +50,7 @@ fn word_start(line: &[u8], at: usize) -> usize
     requires { ⌜ at ≤ length (now line) ⌝ }
     ensures { λ r. ⌜ First is-no-gap (now (line .entry)) at r ⌝ }
 {
-    let mut i = at;
-    while i < line.len() {
-        if !is_space_or_tab(line[i]) {
-            return i;
-        }
-        i += 1;
-    }
-    i
+    first(line, at, b' ', b'\t', false)
 }
 
 // The first byte at or after `at` that is in no word, or the length.
@@ -60,14 +58,7 @@ fn word_end(line: &[u8], at: usize) -> usize
     requires { ⌜ at ≤ length (now line) ⌝ }
     ensures { λ r. ⌜ First is-gap (now (line .entry)) at r ⌝ }
 {
-    let mut i = at;
-    while i < line.len() {
-        if is_space_or_tab(line[i]) {
-            return i;
-        }
-        i += 1;
-    }
-    i
+    first(line, at, b' ', b'\t', true)
 }
 
 // Where a word of a line starts and ends; it is empty if there is none.
