@@ -1,4 +1,4 @@
--- Laws on the bytes before the first that passes a test, and on words. Assumes nothing.
+-- Laws on the bytes before the first that passes a test, on lines, and on words. Assumes nothing.
 use Prim.Native.Nat.{ℕ, suc, _+_, _-_, _≤_, _<_}
 use native.Mathlib.Numerals.{add-one}
 use native.Mathlib.Omega.{arith}
@@ -6,13 +6,13 @@ use mathlib.Core.Path.{_≡_, refl, sym, ap, ap₂, subst, _∙_}
 use mathlib.Core.Logic.{_≢_}
 use mathlib.Core.Bool.{Bool, true, false, not, _||_}
 use mathlib.Core.List.{List, [], _∷_}
-use lib.ListN.{length, getD, take, drop, drop-of-length-le}
+use lib.ListN.{length, getD, take, drop, drop-of-length-le, length-drop}
 use lib.Seq.{drop-cons, drop-drop}
 use lib.Dec.{eqb}
 use borrow.Author.Tests.{eqb-true, eqb-false}
 use Rattle.model.specs.Choice.{choose}
-use Rattle.replay_words.specs.Words.{before, filled, is-gap, is-no-gap, joined, pieces, words}
-use Rattle.replay_words.specs.Cursor.{First, NextWord, none-left}
+use Rattle.replay_words.specs.Words.{before, filled, is-end, is-gap, is-no-gap, joined, lines, pieces, words}
+use Rattle.replay_words.specs.Cursor.{First, NextWord, PieceAt, none-left, part}
 use Rattle.replay_words.specs.declared.Word.{Word}
 
 pub bool : (P : Bool → Type 0) (b : Bool) → (b ≡ true → P true) → (b ≡ false → P false) → P b
@@ -66,6 +66,43 @@ before-take f [] = refl
 before-take f (b ∷ bs) =
     bool (λ t. take (length (choose t [] (b ∷ before f bs))) (b ∷ bs) ≡ choose t [] (b ∷ before f bs)) (f b) (λ e. refl)
     λ e. ap (λ (r : List ℕ). b ∷ r) (before-take f bs)
+
+-- the first line is the bytes before the first LF, and the others are the lines behind it
+lines-first : (bs : List ℕ) → 0 < length bs → lines bs ≡ before is-end bs ∷ lines (drop (suc (length (before is-end bs))) bs)
+unfolding before lines
+lines-first [] h = absurd (omega arith)
+lines-first (b ∷ []) h =
+    bool (λ t. joined t b [] ≡ choose t [] (b ∷ []) ∷ lines (drop (length (choose t [] (b ∷ []))) [])) (is-end b) (λ e. refl) λ e. refl
+lines-first (b ∷ d ∷ bs) h =
+    bool
+    (λ t. joined t b (lines (d ∷ bs)) ≡ choose t [] (b ∷ before is-end (d ∷ bs)) ∷ lines (drop (length (choose t [] (b ∷ before is-end (d ∷ bs)))) (d ∷ bs)))
+    (is-end b) (λ e. refl) λ e. ap (joined false b) (lines-first (d ∷ bs) (omega arith))
+
+-- a line of a text, from where it ends; behind the last byte none is left, whether it is an LF or not
+module _ {bs : List ℕ} {from e : ℕ} (h : from < length bs) (f : First is-end bs from e) where
+  first-line : lines (drop from bs) ≡ part bs from e ∷ lines (drop (e + 1) bs)
+  first-line =
+      let rest = drop from bs in
+      let long : e - from ≡ length (before is-end rest) = omega (arith, f .first) in
+      let next : from + suc (length (before is-end rest)) ≡ e + 1 = omega (arith, f .first) in
+      lines-first rest (simp length-drop (omega arith))
+      ∙ ap₂ (λ (l : List ℕ) (ls : List (List ℕ)). l ∷ ls) (sym (before-take is-end rest) ∙ ap (λ k. take k rest) (sym long))
+      (ap lines (drop-drop (suc (length (before is-end rest))) from bs ∙ ap (λ k. drop k bs) next))
+
+  pub piece-ended : e < length bs → PieceAt bs from (record { end = e; next = e + 1 })
+  piece-ended l =
+      record { forward = omega (arith, f .first); behind = omega arith; goes-on = omega (arith, f .first); inside = omega arith; first-line = first-line }
+
+  pub piece-last : length bs ≤ e → PieceAt bs from (record { end = e; next = e })
+  piece-last l =
+      let none : drop (e + 1) bs ≡ drop e bs = drop-of-length-le bs {i = e + 1} (omega arith) ∙ sym (drop-of-length-le bs l) in
+      record {
+        forward = omega (arith, f .first);
+        behind = omega arith;
+        goes-on = omega arith;
+        inside = f .inside;
+        first-line = first-line ∙ ap (λ (r : List ℕ). part bs from e ∷ lines r) none;
+      }
 
 -- a gap in front says nothing
 gap-words : (b : ℕ) (bs : List ℕ) → is-gap b ≡ true → words (b ∷ bs) ≡ words bs
@@ -132,6 +169,7 @@ by-word {bs} {at} {s} {e} fs fe =
     drop-drop (length (before is-gap (drop s bs))) s bs ∙ ap (λ k. drop k bs) (sym (fe .first)) in
     let long : e - s ≡ length (before is-gap (drop s bs)) = omega (arith, fe .first) in
     record {
+      onward = omega (arith, fs .first);
       forward = omega (arith, fe .first);
       inside = fe .inside;
       none-left = λ q. only-gaps (drop at bs) (ap (λ (l : List ℕ). length (before is-gap l)) past ∙ omega (arith, long));

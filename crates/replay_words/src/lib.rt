@@ -1,9 +1,9 @@
 // The words and numbers of a line of the replay program. No input or output.
 ghost use mathlib.Core.Path.{_≡_};
-ghost use Prim.Native.Nat.{_≤_};
+ghost use Prim.Native.Nat.{_<_, _≤_};
 ghost use lib.ListN.{length, drop};
 ghost use Rattle.replay_words.specs.Words.{sought, is-end, is-comment, is-gap, is-no-gap, words, same, number};
-ghost use Rattle.replay_words.specs.Cursor.{First, NextWord, told, none-left};
+ghost use Rattle.replay_words.specs.Cursor.{First, PieceAt, NextWord, told, none-left};
 
 fn is_sought(c: u8, a: u8, b: u8, wanted: bool) -> bool
     ensures { λ r. ⌜ r ≡ sought a b wanted c ⌝ }
@@ -36,6 +36,24 @@ pub fn line_end(text: &[u8], at: usize) -> usize
     ensures { λ r. ⌜ First is-end (now (text .entry)) at r ⌝ }
 {
     first(text, at, b'\n', b'\n', true)
+}
+
+// Where a line ends, and where the next one starts.
+pub struct Piece {
+    pub end: usize,
+    pub next: usize,
+}
+
+// The line from `from` on; its LF is not part of it.
+pub fn piece_at(text: &[u8], from: usize) -> Piece
+    requires { ⌜ from < length (now text) ⌝ }
+    ensures { λ r. ⌜ PieceAt (now (text .entry)) from r ⌝ }
+{
+    let end = line_end(text, from);
+    if end < text.len() {
+        return Piece { end, next: end + 1 };
+    }
+    Piece { end, next: end }
 }
 
 // The first comment sign, or the length.
