@@ -1,11 +1,11 @@
--- `replay_lines::length_without_return` meets its contract. Assumes nothing.
-use Rattle.replay_lines.proofs.Lines.{return-nothing, return-found, return-none}
 use borrow.Author.Needs.{needs}
 use Rattle.replay_lines.proofs.length_without_return.Statement.{statement}
 use Rattle.replay_lines.proofs.length_without_return.Tie as tie
+use Rattle.replay_lines.proofs.length_without_return.Reads as reads
+use Rattle.replay_lines.proofs.length_without_return.Lts as lts
 
 returns : tie.Need-returns
-returns c = search return-nothing
+returns c = ?
 
 sub-if2 : tie.Need-sub-if2
 sub-if2 c = search needs
@@ -17,10 +17,10 @@ sub-result : tie.Need-sub-result
 sub-result c = search needs
 
 returns-2 : tie.Need-returns-2
-returns-2 c = search return-found
+returns-2 c = ?
 
 returns-3 : tie.Need-returns-3
-returns-3 c = search return-none
+returns-3 c = ?
 
 pub length-without-return-spec : {M : Type 1} → statement M
 length-without-return-spec =
