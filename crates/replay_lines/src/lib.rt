@@ -89,16 +89,16 @@ fn row_in(rows: &[u8], line: &[u8], numbers: &mut [u64]) -> usize
 {
     let mut from: usize = 0;
     let mut row: usize = 0;
-    runs::zero64(numbers);
     while from < rows.len() {
         let Piece { end, next } = replay_words::piece_at(rows, from);
+        runs::zero64(numbers);
         if fits(&rows[from..end], line, numbers) {
             return row;
         }
-        runs::zero64(numbers);
         row += 1;
         from = next;
     }
+    runs::zero64(numbers);
     row
 }
 
