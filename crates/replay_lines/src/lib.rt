@@ -60,8 +60,14 @@ fn fits(row: &[u8], line: &[u8], numbers: &mut [u64]) -> bool
     let mut j: usize = 0;
     let mut count: usize = 0;
     loop {
-        let Word { start: p, end: p_end } = replay_words::next_word(row, i);
-        let Word { start: w, end: w_end } = replay_words::next_word(line, j);
+        let Word {
+            start: p,
+            end: p_end,
+        } = replay_words::next_word(row, i);
+        let Word {
+            start: w,
+            end: w_end,
+        } = replay_words::next_word(line, j);
         if p == p_end {
             return w == w_end;
         }

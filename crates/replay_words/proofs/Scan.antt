@@ -9,11 +9,9 @@ use mathlib.Core.List.{List, [], _∷_}
 use lib.ListN.{length, getD, take, drop, drop-of-length-le, length-drop}
 use lib.Seq.{drop-cons, drop-drop}
 use lib.Dec.{eqb}
-use borrow.Author.Tests.{eqb-true, eqb-false}
 use Rattle.model.specs.Choice.{choose}
 use Rattle.replay_words.specs.Words.{before, filled, is-end, is-gap, is-no-gap, joined, lines, pieces, words}
-use Rattle.replay_words.specs.Cursor.{First, NextWord, PieceAt, none-left, part}
-use Rattle.replay_words.specs.declared.Word.{Word}
+use Rattle.replay_words.specs.Cursor.{First, NextWord, PieceAt, part}
 
 pub bool : (P : Bool → Type 0) (b : Bool) → (b ≡ true → P true) → (b ≡ false → P false) → P b
 bool P true t f = t refl
@@ -177,9 +175,3 @@ by-word {bs} {at} {s} {e} fs fe =
           ∙ ap₂ (λ (w : List ℕ) (ws : List (List ℕ)). w ∷ ws)
           (sym (before-take is-gap (drop s bs)) ∙ ap (λ k. take k (drop s bs)) (sym long)) (ap words behind);
     }
-
--- no word is left
-pub at-end : {bs : List ℕ} {at : ℕ} {w : Word} → NextWord bs at w → eqb (w .start) (w .end) ≡ none-left (words (drop at bs))
-at-end {bs} {at} {w} next =
-    bool (λ t. t ≡ none-left (words (drop at bs))) (eqb (w .start) (w .end)) (λ e. rw (next .none-left (eqb-true (w .start) (w .end) e)))
-    λ e. rw (next .next-word (eqb-false (w .start) (w .end) e))

@@ -2,7 +2,7 @@
 use Prim.Native.Nat.{ℕ, _+_, _-_, _≤_, _<_}
 use mathlib.Core.Path.{_≡_}
 use mathlib.Core.Logic.{_≢_}
-use mathlib.Core.Bool.{Bool, true, false}
+use mathlib.Core.Bool.{Bool}
 use mathlib.Core.Option.{Option, none, some}
 use mathlib.Core.List.{List, [], _∷_}
 use lib.ListN.{length, take, drop}
@@ -41,8 +41,3 @@ pub record NextWord (bs : List ℕ) (at : ℕ) (r : Word) : Type 0 where
 abbrev pub told : Number → Option ℕ
 told (number.Value v) = some v
 told number.Not = none
-
--- whether no word is left
-abbrev pub none-left : List (List ℕ) → Bool
-none-left [] = true
-none-left (w ∷ ws) = false

@@ -1,9 +1,9 @@
 // The words and numbers of a line of the replay program. No input or output.
 ghost use mathlib.Core.Path.{_≡_};
 ghost use Prim.Native.Nat.{_<_, _≤_};
-ghost use lib.ListN.{length, drop};
-ghost use Rattle.replay_words.specs.Words.{sought, is-end, is-comment, is-gap, is-no-gap, words, same, number};
-ghost use Rattle.replay_words.specs.Cursor.{First, PieceAt, NextWord, told, none-left};
+ghost use lib.ListN.{length};
+ghost use Rattle.replay_words.specs.Words.{sought, is-end, is-comment, is-gap, is-no-gap, same, number};
+ghost use Rattle.replay_words.specs.Cursor.{First, PieceAt, NextWord, told};
 
 fn is_sought(c: u8, a: u8, b: u8, wanted: bool) -> bool
     ensures { λ r. ⌜ r ≡ sought a b wanted c ⌝ }
@@ -31,7 +31,7 @@ fn first(text: &[u8], at: usize, a: u8, b: u8, wanted: bool) -> usize
 }
 
 // The first LF at or after `at`, or the length.
-pub fn line_end(text: &[u8], at: usize) -> usize
+fn line_end(text: &[u8], at: usize) -> usize
     requires { ⌜ at ≤ length (now text) ⌝ }
     ensures { λ r. ⌜ First is-end (now (text .entry)) at r ⌝ }
 {
@@ -152,13 +152,4 @@ pub fn number_of(word: &[u8], top: u64) -> Number
         i += 1;
     }
     Number::Value(v)
-}
-
-// Whether no word is left from `at` on.
-pub fn is_at_end(line: &[u8], at: usize) -> bool
-    requires { ⌜ at ≤ length (now line) ⌝ }
-    ensures { λ r. ⌜ r ≡ none-left (words (drop at (now (line .entry)))) ⌝ }
-{
-    let word = next_word(line, at);
-    word.start == word.end
 }
