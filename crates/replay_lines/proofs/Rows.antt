@@ -11,11 +11,11 @@ use lib.ListN.{length, drop, drop-of-length-le, getD, length-replicate, replicat
 use lib.Seq.{length-take-le, sets, take-length}
 use borrow.Author.Tests.{eq-eqb, ne-eqb}
 use Rattle.model.specs.Choice.{choose}
-use Rattle.replay_words.specs.Words.{before as before-first, is-comment, lines, without-comment, without-return, words}
+use Rattle.replay_words.specs.Words.{before, is-comment, lines, without-comment, without-return, words}
 use Rattle.replay_words.specs.Cursor.{First, PieceAt, part}
 use Rattle.replay_words.specs.declared.Piece.{Piece}
 use Rattle.replay_words.proofs.Scan.{before-take}
-use Rattle.replay_lines.specs.Line.{Said, first-row, fitting, follows, padded, said}
+use Rattle.replay_lines.specs.Line.{Said, first-row, fitting, or-else, padded, said}
 use Rattle.replay_lines.specs.Cursor.{Fits, Follows, WithoutReturn, stored}
 
 -- the rows up to from do not fit, and they are n
@@ -40,7 +40,7 @@ module _ {rows line before now : List ℕ} {from n : ℕ} (s : Trying rows line 
 
   module _ {p : Piece} (piece : PieceAt rows from p) where
     step : {o : Option (List ℕ)} → fitting (words (part rows from (p .end))) (words line) ≡ o
-        → first-row 0 (lines rows) (words line) ≡ follows o n (first-row (n + 1) (lines (drop (p .next) rows)) (words line))
+        → first-row 0 (lines rows) (words line) ≡ or-else o n (first-row (n + 1) (lines (drop (p .next) rows)) (words line))
     unfolding first-row
     step e = sym (s .ahead) ∙ rw (piece .first-line, e, add-one)
 
@@ -96,13 +96,13 @@ pub cut-length : (bs : List ℕ) (n : ℕ) → n ≤ length bs → n ≡ length 
 cut-length bs n h = sym (length-take-le n bs h)
 
 -- a line is the words before its comment and its line end
-pub by-line : (rows : List ℕ) {bs before after : List ℕ} {n m r : ℕ} → WithoutReturn bs n → First is-comment (take n bs) 0 m
-    → Follows (first-row 0 (lines rows) (words (take m (take n bs)))) before after r
-    → (r ≡ said rows bs .row) × (after ≡ padded (length before) (said rows bs .numbers))
+pub by-line : (rows : List ℕ) {bs numbers after : List ℕ} {n m r : ℕ} → WithoutReturn bs n → First is-comment (take n bs) 0 m
+    → Follows (first-row 0 (lines rows) (words (take m (take n bs)))) numbers after r
+    → (r ≡ said rows bs .row) × (after ≡ padded (length numbers) (said rows bs .numbers))
 unfolding said without-comment
-by-line rows {bs} {before} {after} {n} {m} w c f =
-    let q : m ≡ length (before-first is-comment (take n bs)) = omega (arith, c .first) in
+by-line rows {bs} {numbers} {after} {n} {m} w c f =
+    let q : m ≡ length (before is-comment (take n bs)) = omega (arith, c .first) in
     let e : take m (take n bs) ≡ without-comment (without-return bs) =
-    ap (λ (k : ℕ). take k (take n bs)) q ∙ before-take is-comment (take n bs) ∙ ap (before-first is-comment) (w .kept) in
+    ap (λ (k : ℕ). take k (take n bs)) q ∙ before-take is-comment (take n bs) ∙ ap (before is-comment) (w .kept) in
     let g : first-row 0 (lines rows) (words (take m (take n bs))) ≡ said rows bs = ap (λ (l : List ℕ). first-row 0 (lines rows) (words l)) e in
-    (f .same-row ∙ ap (λ (x : Said). x .row) g, f .same-numbers ∙ ap (λ (x : Said). padded (length before) (x .numbers)) g)
+    (f .same-row ∙ ap (λ (x : Said). x .row) g, f .same-numbers ∙ ap (λ (x : Said). padded (length numbers) (x .numbers)) g)

@@ -18,6 +18,7 @@ abbrev pub alone : Option ℕ → Option (List ℕ)
 alone none = none
 alone (some n) = some (n ∷ [])
 
+-- what a word of a row takes, given the largest number that it takes
 abbrev pub taken-up-to : Option ℕ → List ℕ → List ℕ → Option (List ℕ)
 taken-up-to none p w = choose (same p w) (some []) none
 taken-up-to (some top) p w = alone (number top w)
@@ -44,14 +45,15 @@ pub record Said : Type 0 where
   pub row : ℕ
   pub numbers : List ℕ
 
-abbrev pub follows : Option (List ℕ) → ℕ → Said → Said
-follows none n s = s
-follows (some ns) n s = record { row = n; numbers = ns }
+-- row n if it fits, and else what the others say
+abbrev pub or-else : Option (List ℕ) → ℕ → Said → Said
+or-else none n s = s
+or-else (some ns) n s = record { row = n; numbers = ns }
 
 -- the first of some rows, counted from n on, that fits; with none, their number and no numbers
 unfoldable pub first-row : ℕ → List (List ℕ) → List (List ℕ) → Said
 first-row n [] line = record { row = n; numbers = [] }
-first-row n (r ∷ rs) line = follows (fitting (words r) line) n (first-row (suc n) rs line)
+first-row n (r ∷ rs) line = or-else (fitting (words r) line) n (first-row (suc n) rs line)
 
 -- what the bytes of a line say, given without its LF
 unfoldable pub said : List ℕ → List ℕ → Said

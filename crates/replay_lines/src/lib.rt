@@ -13,7 +13,7 @@ const LARGEST: u64 = 18446744073709551615;
 const LARGEST_PERMISSION: u64 = 4294967295;
 
 // What a word of a row takes from a word of a line.
-pub enum Taken {
+enum Taken {
     No,
     Word,
     Number(u64),
@@ -60,32 +60,24 @@ fn fits(row: &[u8], line: &[u8], numbers: &mut [u64]) -> bool
     let mut j: usize = 0;
     let mut count: usize = 0;
     loop {
-        let Word {
-            start: p,
-            end: p_end,
-        } = replay_words::next_word(row, i);
-        let Word {
-            start: w,
-            end: w_end,
-        } = replay_words::next_word(line, j);
-        if p == p_end {
-            return w == w_end;
+        let Word { start: p, end: q } = replay_words::next_word(row, i);
+        let Word { start: s, end: e } = replay_words::next_word(line, j);
+        if p == q {
+            return s == e;
         }
-        if w == w_end {
+        if s == e {
             return false;
         }
-        match take_word(&row[p..p_end], &line[w..w_end]) {
-            Taken::No => {
-                return false;
-            }
+        match take_word(&row[p..q], &line[s..e]) {
+            Taken::No => return false,
             Taken::Word => {}
             Taken::Number(n) => {
                 store(numbers, count, n);
                 count += 1;
             }
         }
-        i = p_end;
-        j = w_end;
+        i = q;
+        j = e;
     }
 }
 
