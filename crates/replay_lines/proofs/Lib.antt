@@ -1,3 +1,3 @@
 pub mod Examples
-pub mod Numbers
-pub mod Lines
+pub mod Fitting
+pub mod Rows

@@ -1,96 +1,64 @@
--- What a line means. Assumes nothing.
-use Prim.Native.Nat.{ℕ}
-use mathlib.Core.Bool.{Bool, true, false}
+-- What a line says, by a table of rows. Assumes nothing.
+-- A word of a row is N, a number; P, a number of 32 bits; or stands for itself.
+use Prim.Native.Nat.{ℕ, suc}
+use Prim.Native.Char.{code}
 use mathlib.Core.Option.{Option, none, some}
-use mathlib.Core.List.{List, [], _∷_}
-use Rattle.replay_words.specs.Text.{bytes}
-use Rattle.replay_words.specs.Words.{choose, number, same, without-comment, without-return, words}
-use Rattle.replay_lines.specs.declared.Line.{Line}
-use Rattle.replay_lines.specs.declared.Line.the-variants as line
+use mathlib.Core.List.{List, [], _∷_, _++_}
+use lib.ListN.{replicate}
+use lib.Seq.{sets}
+use Rattle.model.specs.Choice.{choose}
+use Rattle.replay_words.specs.Words.{lines, number, same, without-comment, without-return, words}
 
--- the largest number, the largest permission, the largest buffer
-abbrev pub largest : ℕ
-largest = 18446744073709551615
+-- the largest number that a word of a row takes, if it takes one
+unfoldable pub bound : List ℕ → Option ℕ
+bound p = choose (same p (code "N" ∷ [])) (some 18446744073709551615) (choose (same p (code "P" ∷ [])) (some 4294967295) none)
 
-abbrev pub largest-permission : ℕ
-largest-permission = 4294967295
+-- a number as the only one
+abbrev pub alone : Option ℕ → Option (List ℕ)
+alone none = none
+alone (some n) = some (n ∷ [])
 
-abbrev pub largest-buffer : ℕ
-largest-buffer = 81920
+-- what a word of a row takes, given the largest number that it takes
+abbrev pub taken-up-to : Option ℕ → List ℕ → List ℕ → Option (List ℕ)
+taken-up-to none p w = choose (same p w) (some []) none
+taken-up-to (some top) p w = alone (number top w)
 
--- no word is left
-abbrev pub ends : Line → List (List ℕ) → Line
-ends l [] = l
-ends l (w ∷ ws) = line.NotUnderstood
+-- the numbers that a word of a row takes from a word of a line: one, none where it stands for itself; or it does not fit
+unfoldable pub taken : List ℕ → List ℕ → Option (List ℕ)
+taken p w = taken-up-to (bound p) p w
 
--- a number was read, or the line is not understood
-abbrev pub given : Option ℕ → (ℕ → List (List ℕ) → Line) → List (List ℕ) → Line
-given none then ws = line.NotUnderstood
-given (some n) then ws = then n ws
+-- the numbers of both, if both fit
+abbrev pub both : Option (List ℕ) → Option (List ℕ) → Option (List ℕ)
+both none o = none
+both (some ns) none = none
+both (some ns) (some ms) = some (ns ++ ms)
 
--- the next word is a number of at most top, and then the rest
-unfoldable pub up-to : ℕ → (ℕ → List (List ℕ) → Line) → List (List ℕ) → Line
-up-to top then [] = line.NotUnderstood
-up-to top then (w ∷ ws) = given (number top w) then ws
+-- the numbers of a line whose words are as a row says
+unfoldable pub fitting : (row line : List (List ℕ)) → Option (List ℕ)
+fitting [] [] = some []
+fitting [] (w ∷ ws) = none
+fitting (p ∷ ps) [] = none
+fitting (p ∷ ps) (w ∷ ws) = both (taken p w) (fitting ps ws)
 
--- one number, two, three, and no more
-unfoldable pub one : ℕ → (ℕ → Line) → List (List ℕ) → Line
-one top f = up-to top λ a. ends (f a)
+-- which row a line follows, and its numbers
+pub record Said : Type 0 where
+  pub row : ℕ
+  pub numbers : List ℕ
 
-unfoldable pub two : (ℕ → ℕ → Line) → List (List ℕ) → Line
-two f = up-to largest λ a. one largest (f a)
+-- row n if it fits, and else what the others say
+abbrev pub or-else : Option (List ℕ) → ℕ → Said → Said
+or-else none n s = s
+or-else (some ns) n s = record { row = n; numbers = ns }
 
-unfoldable pub three : (ℕ → ℕ → ℕ → Line) → List (List ℕ) → Line
-three f = up-to largest λ a. two (f a)
+-- the first of some rows, counted from n on, that fits; with none, their number and no numbers
+unfoldable pub first-row : ℕ → List (List ℕ) → List (List ℕ) → Said
+first-row n [] line = record { row = n; numbers = [] }
+first-row n (r ∷ rs) line = or-else (fitting (words r) line) n (first-row (suc n) rs line)
 
--- no word is left, or only `standing`
-unfoldable pub maybe-standing : (Bool → Line) → List (List ℕ) → Line
-maybe-standing f [] = f false
-maybe-standing f (w ∷ ws) = choose (same w (bytes "standing")) (ends (f true) ws) line.NotUnderstood
+-- what the bytes of a line say, given without its LF
+unfoldable pub said : List ℕ → List ℕ → Said
+said rows bs = first-row 0 (lines rows) (words (without-comment (without-return bs)))
 
--- an animal, a permission and a minute, and perhaps `standing`
-unfoldable pub entry : (ℕ → ℕ → ℕ → Bool → Line) → List (List ℕ) → Line
-entry f = up-to largest λ a. up-to largest-permission λ p. up-to largest λ m. maybe-standing (f a p m)
-
--- after `cut K`: a set, a delete or an evict
-unfoldable pub cut-call : ℕ → List (List ℕ) → Line
-cut-call k [] = line.NotUnderstood
-cut-call k (w ∷ ws) =
-    choose (same w (bytes "set")) (entry (line.CutSet k) ws)
-    (choose (same w (bytes "delete")) (one largest (line.CutDelete k) ws)
-    (choose (same w (bytes "evict")) (ends (line.CutEvict k) ws) line.NotUnderstood))
-
--- after `poke`: a run, an index and a word
-unfoldable pub poke-call : List (List ℕ) → Line
-poke-call [] = line.NotUnderstood
-poke-call (w ∷ ws) =
-    choose (same w (bytes "slots")) (two line.PokeSlots ws)
-    (choose (same w (bytes "counters")) (two line.PokeCounters ws)
-    (choose (same w (bytes "items")) (two line.PokeItems ws) line.NotUnderstood))
-
--- a call by its name and the words after it: five of the eleven
-unfoldable pub other-call : List ℕ → List (List ℕ) → Line
-other-call w ws =
-    choose (same w (bytes "hand")) (one largest line.Hand ws)
-    (choose (same w (bytes "cut")) (up-to largest cut-call ws)
-    (choose (same w (bytes "list")) (one largest-buffer line.List ws)
-    (choose (same w (bytes "poke")) (poke-call ws)
-    (choose (same w (bytes "dump")) (ends line.Dump ws) line.NotUnderstood))))
-
--- all eleven
-unfoldable pub call : List ℕ → List (List ℕ) → Line
-call w ws =
-    choose (same w (bytes "fresh")) (three line.Fresh ws)
-    (choose (same w (bytes "set")) (entry line.Set ws)
-    (choose (same w (bytes "read")) (three line.Read ws)
-    (choose (same w (bytes "serve")) (three line.Serve ws)
-    (choose (same w (bytes "delete")) (one largest line.Delete ws)
-    (choose (same w (bytes "evict")) (ends line.Evict ws) (other-call w ws))))))
-
-unfoldable pub meaning : List (List ℕ) → Line
-meaning [] = line.Blank
-meaning (w ∷ ws) = call w ws
-
--- what the bytes of a line mean, given without its LF
-unfoldable pub line-of : List ℕ → Line
-line-of bs = meaning (words (without-comment (without-return bs)))
+-- numbers in an array of n words: zeros behind them, and those beyond it dropped
+abbrev pub padded : ℕ → List ℕ → List ℕ
+padded n ns = sets (replicate n 0) 0 ns

@@ -10,7 +10,7 @@ use mathlib.Core.List.{List, [], _∷_}
 use lib.ListN.{length, getD, drop, drop-of-length-le}
 use lib.Seq.{drop-cons}
 use lib.Dec.{eqb, leb}
-use borrow.Author.Tests.{eq-eqb, ne-eqb, le-leb, lt-leb, leb-true}
+use borrow.Author.Tests.{eq-eqb, ne-eqb, le-leb, lt-leb}
 use Rattle.model.specs.Choice.{choose}
 use Rattle.replay_words.specs.Words.{all-digits, is-digit, number, number-from, same, value}
 use Rattle.replay_words.proofs.Scan.{bool}
@@ -78,16 +78,6 @@ module _ (top v : ℕ) where
   one-digit : (d : ℕ) (ds : List ℕ) → is-digit d ≡ true → number-from top v (d ∷ ds) ≡ number-from top (v * 10 + (d - 48)) ds
   unfolding number-from all-digits value
   one-digit d ds e = rw e
-
-pub number-small : (top v : ℕ) (w : List ℕ) → some v ≡ number top w → v ≤ top
-unfolding number number-from
-number-small top v [] = λ e. let z : _≡_ {A = ℕ} 0 1 = cc in omega arith
-number-small top v (d ∷ ds) =
-    bool (λ t. some v ≡ choose t (choose (leb (value 0 (d ∷ ds)) top) (some (value 0 (d ∷ ds))) none) none → v ≤ top) (all-digits (d ∷ ds))
-    (λ _. bool (λ t. leb (value 0 (d ∷ ds)) top ≡ t → some v ≡ choose t (some (value 0 (d ∷ ds))) none → v ≤ top) (leb (value 0 (d ∷ ds)) top)
-    (λ _ l e. let q : v ≡ value 0 (d ∷ ds) = cc in omega (arith, leb-true (value 0 (d ∷ ds)) top l))
-    (λ _ l e. let z : _≡_ {A = ℕ} 0 1 = cc in omega arith) refl)
-    λ _ e. let z : _≡_ {A = ℕ} 0 1 = cc in omega arith
 
 -- a word read up to i makes v
 pub record Reading (top : ℕ) (w : List ℕ) (v i : ℕ) : Type 0 where

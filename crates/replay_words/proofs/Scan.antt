@@ -1,19 +1,17 @@
--- Laws on the bytes before the first that passes a test, and on words. Assumes nothing.
+-- Laws on the bytes before the first that passes a test, on lines, and on words. Assumes nothing.
 use Prim.Native.Nat.{ℕ, suc, _+_, _-_, _≤_, _<_}
 use native.Mathlib.Numerals.{add-one}
 use native.Mathlib.Omega.{arith}
-use mathlib.Core.Path.{_≡_, refl, sym, ap, ap₂, _∙_}
+use mathlib.Core.Path.{_≡_, refl, sym, ap, ap₂, subst, _∙_}
 use mathlib.Core.Logic.{_≢_}
-use mathlib.Core.Bool.{Bool, true, false, not}
+use mathlib.Core.Bool.{Bool, true, false, not, _||_}
 use mathlib.Core.List.{List, [], _∷_}
-use lib.ListN.{length, getD, take, drop, drop-of-length-le}
+use lib.ListN.{length, getD, take, drop, drop-of-length-le, length-drop}
 use lib.Seq.{drop-cons, drop-drop}
 use lib.Dec.{eqb}
-use borrow.Author.Tests.{eq-eqb, ne-eqb, eqb-true, eqb-false}
 use Rattle.model.specs.Choice.{choose}
-use Rattle.replay_words.specs.Words.{before, filled, is-gap, is-no-gap, joined, pieces, words}
-use Rattle.replay_words.specs.Cursor.{First, NextWord, none-left}
-use Rattle.replay_words.specs.declared.Word.{Word}
+use Rattle.replay_words.specs.Words.{before, filled, is-end, is-gap, is-no-gap, joined, lines, pieces, words}
+use Rattle.replay_words.specs.Cursor.{First, NextWord, PieceAt, part}
 
 pub bool : (P : Bool → Type 0) (b : Bool) → (b ≡ true → P true) → (b ≡ false → P false) → P b
 bool P true t f = t refl
@@ -41,39 +39,23 @@ pub seek-first : {f : ℕ → Bool} {bs : List ℕ} {at : ℕ} → at ≤ length
 seek-first h = record { inside = h; ahead = refl }
 
 module _ {f : ℕ → Bool} {bs : List ℕ} {at i : ℕ} (s : Seeking f bs at i) where
-  pub seek-found : i < length bs → f (getD bs i 0) ≡ true → First f bs at i
-  seek-found h e =
-      record { first = omega (arith, s .ahead, ap length (before-here f bs i h e)); inside = s .inside }
+  module _ {t : Bool} (h : i < length bs) (g : t ≡ f (getD bs i 0)) where
+    pub seek-found : t ≡ true → First f bs at i
+    seek-found e = record { first = omega (arith, s .ahead, ap length (before-here f bs i h (sym g ∙ e))); inside = s .inside }
 
-  pub seek-more : i < length bs → f (getD bs i 0) ≡ false → Seeking f bs at (i + 1)
-  seek-more h e =
-      record { inside = omega arith; ahead = omega (arith, s .ahead, ap length (before-next f bs i h e)) }
+    pub seek-more : t ≡ false → Seeking f bs at (i + 1)
+    seek-more e = record { inside = omega arith; ahead = omega (arith, s .ahead, ap length (before-next f bs i h (sym g ∙ e))) }
 
   pub seek-end : length bs ≤ i → First f bs at i
   seek-end h = record { first = omega (arith, s .ahead, ap length (before-end f bs i h)); inside = s .inside }
 
--- for one byte
-module _ (n : ℕ) {bs : List ℕ} {at i : ℕ} (s : Seeking (λ b. eqb b n) bs at i) (h : i < length bs) where
-  pub byte-found : getD bs i 0 ≡ n → First (λ b. eqb b n) bs at i
-  byte-found e = seek-found s h (eq-eqb (getD bs i 0) n e)
-
-  pub byte-more : getD bs i 0 ≢ n → Seeking (λ b. eqb b n) bs at (i + 1)
-  byte-more e = seek-more s h (ne-eqb (getD bs i 0) n e)
-
--- for a gap, and for a word
-module _ {bs : List ℕ} {at i : ℕ} {t : Bool} (s : Seeking is-gap bs at i) (h : i < length bs) (g : t ≡ is-gap (getD bs i 0)) where
-  pub gap-found : t ≡ true → First is-gap bs at i
-  gap-found e = seek-found s h (sym g ∙ e)
-
-  pub gap-more : t ≡ false → Seeking is-gap bs at (i + 1)
-  gap-more e = seek-more s h (sym g ∙ e)
-
-module _ {bs : List ℕ} {at i : ℕ} {t : Bool} (s : Seeking is-no-gap bs at i) (h : i < length bs) (g : t ≡ is-gap (getD bs i 0)) where
-  pub word-found : not t ≡ true → First is-no-gap bs at i
-  word-found e = seek-found s h (ap not (sym g) ∙ e)
-
-  pub word-more : not t ≡ false → Seeking is-no-gap bs at (i + 1)
-  word-more e = seek-more s h (ap not (sym g) ∙ e)
+-- one byte twice is one byte
+pub first-twice : (n : ℕ) {bs : List ℕ} {at r : ℕ} → First (λ b. eqb b n || eqb b n) bs at r → First (λ b. eqb b n) bs at r
+first-twice n {bs} {at} {r} = subst (λ (f : ℕ → Bool). First f bs at r) λ i b. twice (eqb b n) i
+  where
+    twice : (t : Bool) → (t || t) ≡ t
+    twice true = refl
+    twice false = refl
 
 -- the bytes before are the first ones
 pub before-take : (f : ℕ → Bool) (bs : List ℕ) → take (length (before f bs)) bs ≡ before f bs
@@ -82,6 +64,43 @@ before-take f [] = refl
 before-take f (b ∷ bs) =
     bool (λ t. take (length (choose t [] (b ∷ before f bs))) (b ∷ bs) ≡ choose t [] (b ∷ before f bs)) (f b) (λ e. refl)
     λ e. ap (λ (r : List ℕ). b ∷ r) (before-take f bs)
+
+-- the first line is the bytes before the first LF, and the others are the lines behind it
+lines-first : (bs : List ℕ) → 0 < length bs → lines bs ≡ before is-end bs ∷ lines (drop (suc (length (before is-end bs))) bs)
+unfolding before lines
+lines-first [] h = absurd (omega arith)
+lines-first (b ∷ []) h =
+    bool (λ t. joined t b [] ≡ choose t [] (b ∷ []) ∷ lines (drop (length (choose t [] (b ∷ []))) [])) (is-end b) (λ e. refl) λ e. refl
+lines-first (b ∷ d ∷ bs) h =
+    bool
+    (λ t. joined t b (lines (d ∷ bs)) ≡ choose t [] (b ∷ before is-end (d ∷ bs)) ∷ lines (drop (length (choose t [] (b ∷ before is-end (d ∷ bs)))) (d ∷ bs)))
+    (is-end b) (λ e. refl) λ e. ap (joined false b) (lines-first (d ∷ bs) (omega arith))
+
+-- a line of a text, from where it ends; behind the last byte none is left, whether it is an LF or not
+module _ {bs : List ℕ} {from e : ℕ} (h : from < length bs) (f : First is-end bs from e) where
+  first-line : lines (drop from bs) ≡ part bs from e ∷ lines (drop (e + 1) bs)
+  first-line =
+      let rest = drop from bs in
+      let long : e - from ≡ length (before is-end rest) = omega (arith, f .first) in
+      let next : from + suc (length (before is-end rest)) ≡ e + 1 = omega (arith, f .first) in
+      lines-first rest (simp length-drop (omega arith))
+      ∙ ap₂ (λ (l : List ℕ) (ls : List (List ℕ)). l ∷ ls) (sym (before-take is-end rest) ∙ ap (λ k. take k rest) (sym long))
+      (ap lines (drop-drop (suc (length (before is-end rest))) from bs ∙ ap (λ k. drop k bs) next))
+
+  pub piece-ended : e < length bs → PieceAt bs from (record { end = e; next = e + 1 })
+  piece-ended l =
+      record { forward = omega (arith, f .first); behind = omega arith; goes-on = omega (arith, f .first); inside = omega arith; first-line = first-line }
+
+  pub piece-last : length bs ≤ e → PieceAt bs from (record { end = e; next = e })
+  piece-last l =
+      let none : drop (e + 1) bs ≡ drop e bs = drop-of-length-le bs {i = e + 1} (omega arith) ∙ sym (drop-of-length-le bs l) in
+      record {
+        forward = omega (arith, f .first);
+        behind = omega arith;
+        goes-on = omega arith;
+        inside = f .inside;
+        first-line = first-line ∙ ap (λ (r : List ℕ). part bs from e ∷ lines r) none;
+      }
 
 -- a gap in front says nothing
 gap-words : (b : ℕ) (bs : List ℕ) → is-gap b ≡ true → words (b ∷ bs) ≡ words bs
@@ -148,6 +167,7 @@ by-word {bs} {at} {s} {e} fs fe =
     drop-drop (length (before is-gap (drop s bs))) s bs ∙ ap (λ k. drop k bs) (sym (fe .first)) in
     let long : e - s ≡ length (before is-gap (drop s bs)) = omega (arith, fe .first) in
     record {
+      onward = omega (arith, fs .first);
       forward = omega (arith, fe .first);
       inside = fe .inside;
       none-left = λ q. only-gaps (drop at bs) (ap (λ (l : List ℕ). length (before is-gap l)) past ∙ omega (arith, long));
@@ -155,9 +175,3 @@ by-word {bs} {at} {s} {e} fs fe =
           ∙ ap₂ (λ (w : List ℕ) (ws : List (List ℕ)). w ∷ ws)
           (sym (before-take is-gap (drop s bs)) ∙ ap (λ k. take k (drop s bs)) (sym long)) (ap words behind);
     }
-
--- no word is left
-pub at-end : {bs : List ℕ} {at : ℕ} {w : Word} → NextWord bs at w → eqb (w .start) (w .end) ≡ none-left (words (drop at bs))
-at-end {bs} {at} {w} next =
-    bool (λ t. t ≡ none-left (words (drop at bs))) (eqb (w .start) (w .end)) (λ e. rw (next .none-left (eqb-true (w .start) (w .end) e)))
-    λ e. rw (next .next-word (eqb-false (w .start) (w .end) e))

@@ -13,6 +13,10 @@ unfoldable pub before : (ℕ → Bool) → List ℕ → List ℕ
 before f [] = []
 before f (b ∷ bs) = choose (f b) [] (b ∷ before f bs)
 
+-- whether a byte is one of two, or is neither
+abbrev pub sought : ℕ → ℕ → Bool → ℕ → Bool
+sought a b wanted c = choose wanted (eqb c a || eqb c b) (not (eqb c a || eqb c b))
+
 -- LF ends a line
 abbrev pub is-end : ℕ → Bool
 is-end b = eqb b (code "\n")

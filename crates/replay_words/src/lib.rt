@@ -1,43 +1,66 @@
 // The words and numbers of a line of the replay program. No input or output.
 ghost use mathlib.Core.Path.{_≡_};
-ghost use Prim.Native.Nat.{_≤_};
-ghost use lib.ListN.{length, drop};
-ghost use Rattle.replay_words.specs.Words.{is-end, is-comment, is-gap, is-no-gap, words, same, number};
-ghost use Rattle.replay_words.specs.Cursor.{First, NextWord, told, none-left};
+ghost use Prim.Native.Nat.{_<_, _≤_};
+ghost use lib.ListN.{length};
+ghost use Rattle.replay_words.specs.Words.{sought, is-end, is-comment, is-gap, is-no-gap, same, number};
+ghost use Rattle.replay_words.specs.Cursor.{First, PieceAt, NextWord, told};
 
-// The first LF at or after `at`, or the length.
-pub fn line_end(text: &[u8], at: usize) -> usize
+fn is_sought(c: u8, a: u8, b: u8, wanted: bool) -> bool
+    ensures { λ r. ⌜ r ≡ sought a b wanted c ⌝ }
+{
+    let found = (c == a) | (c == b);
+    if wanted {
+        return found;
+    }
+    !found
+}
+
+// The first byte at or after `at` that is one of two, or that is neither if they are not wanted; or the length.
+fn first(text: &[u8], at: usize, a: u8, b: u8, wanted: bool) -> usize
     requires { ⌜ at ≤ length (now text) ⌝ }
-    ensures { λ r. ⌜ First is-end (now (text .entry)) at r ⌝ }
+    ensures { λ r. ⌜ First (sought a b wanted) (now (text .entry)) at r ⌝ }
 {
     let mut i = at;
     while i < text.len() {
-        if text[i] == b'\n' {
+        if is_sought(text[i], a, b, wanted) {
             return i;
         }
         i += 1;
     }
     i
+}
+
+// The first LF at or after `at`, or the length.
+fn line_end(text: &[u8], at: usize) -> usize
+    requires { ⌜ at ≤ length (now text) ⌝ }
+    ensures { λ r. ⌜ First is-end (now (text .entry)) at r ⌝ }
+{
+    first(text, at, b'\n', b'\n', true)
+}
+
+// Where a line ends, and where the next one starts.
+pub struct Piece {
+    pub end: usize,
+    pub next: usize,
+}
+
+// The line from `from` on; its LF is not part of it.
+pub fn piece_at(text: &[u8], from: usize) -> Piece
+    requires { ⌜ from < length (now text) ⌝ }
+    ensures { λ r. ⌜ PieceAt (now (text .entry)) from r ⌝ }
+{
+    let end = line_end(text, from);
+    if end < text.len() {
+        return Piece { end, next: end + 1 };
+    }
+    Piece { end, next: end }
 }
 
 // The first comment sign, or the length.
 pub fn comment_start(text: &[u8]) -> usize
     ensures { λ r. ⌜ First is-comment (now (text .entry)) 0 r ⌝ }
 {
-    let mut i: usize = 0;
-    while i < text.len() {
-        if text[i] == b'#' {
-            return i;
-        }
-        i += 1;
-    }
-    i
-}
-
-fn is_space_or_tab(b: u8) -> bool
-    ensures { λ r. ⌜ r ≡ is-gap b ⌝ }
-{
-    (b == b' ') | (b == b'\t')
+    first(text, 0, b'#', b'#', true)
 }
 
 // The first byte at or after `at` that is in a word, or the length.
@@ -45,14 +68,7 @@ fn word_start(line: &[u8], at: usize) -> usize
     requires { ⌜ at ≤ length (now line) ⌝ }
     ensures { λ r. ⌜ First is-no-gap (now (line .entry)) at r ⌝ }
 {
-    let mut i = at;
-    while i < line.len() {
-        if !is_space_or_tab(line[i]) {
-            return i;
-        }
-        i += 1;
-    }
-    i
+    first(line, at, b' ', b'\t', false)
 }
 
 // The first byte at or after `at` that is in no word, or the length.
@@ -60,14 +76,7 @@ fn word_end(line: &[u8], at: usize) -> usize
     requires { ⌜ at ≤ length (now line) ⌝ }
     ensures { λ r. ⌜ First is-gap (now (line .entry)) at r ⌝ }
 {
-    let mut i = at;
-    while i < line.len() {
-        if is_space_or_tab(line[i]) {
-            return i;
-        }
-        i += 1;
-    }
-    i
+    first(line, at, b' ', b'\t', true)
 }
 
 // Where a word of a line starts and ends; it is empty if there is none.
@@ -143,13 +152,4 @@ pub fn number_of(word: &[u8], top: u64) -> Number
         i += 1;
     }
     Number::Value(v)
-}
-
-// Whether no word is left from `at` on.
-pub fn is_at_end(line: &[u8], at: usize) -> bool
-    requires { ⌜ at ≤ length (now line) ⌝ }
-    ensures { λ r. ⌜ r ≡ none-left (words (drop at (now (line .entry)))) ⌝ }
-{
-    let word = next_word(line, at);
-    word.start == word.end
 }

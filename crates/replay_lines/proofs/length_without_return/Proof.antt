@@ -1,27 +1,16 @@
 -- `replay_lines::length_without_return` meets its contract. Assumes nothing.
-use Rattle.replay_lines.proofs.Lines.{return-nothing, return-found, return-none}
+use Rattle.replay_lines.proofs.Rows.{return-nothing, return-found, return-none}
 use borrow.Author.Needs.{needs}
 use Rattle.replay_lines.proofs.length_without_return.Statement.{statement}
 use Rattle.replay_lines.proofs.length_without_return.Tie as tie
 
-returns : tie.Need-returns
-returns c = search return-nothing
-
-sub-if2 : tie.Need-sub-if2
-sub-if2 c = search needs
-
-shared-slice-read-if2 : tie.Need-shared-slice-read-if2
-shared-slice-read-if2 c = search needs
-
-sub-result : tie.Need-sub-result
-sub-result c = search needs
-
-returns-2 : tie.Need-returns-2
-returns-2 c = search return-found
-
-returns-3 : tie.Need-returns-3
-returns-3 c = search return-none
-
 pub length-without-return-spec : {M : Type 1} → statement M
 length-without-return-spec =
-    tie.close (tie.spec returns sub-if2 shared-slice-read-if2 sub-result returns-2 returns-3)
+    tie.close
+    (tie.spec
+    (λ c. search return-nothing)
+    (λ c. search needs)
+    (λ c. search needs)
+    (λ c. search needs)
+    (λ c. search return-found)
+    (λ c. search return-none))

@@ -1,49 +1,8 @@
--- `replay_words::comment_start` meets its contract: the first byte still lies ahead. Assumes nothing.
-use Prim.Native.Nat.{_-_}
-use lib.ListN.{length}
-use Rattle.replay_words.specs.Words.{is-comment}
-use Rattle.replay_words.proofs.Scan.{Seeking, seek-first, byte-found, byte-more, seek-end}
+-- `replay_words::comment_start` meets its contract. Assumes nothing.
+use Rattle.replay_words.proofs.Scan.{first-twice}
 use borrow.Author.Needs.{needs}
 use Rattle.replay_words.proofs.comment_start.Statement.{statement}
 use Rattle.replay_words.proofs.comment_start.Tie as tie
 
-abbrev Inv-loop : tie.InvT-loop
-Inv-loop text i₀ i = Seeking is-comment text 0 i
-
-abbrev μ-loop : tie.MeasureT-loop
-μ-loop text i₀ i = length text - i
-
-loop-holds : tie.Need-loop-holds Inv-loop μ-loop
-loop-holds c = seek-first (search needs)
-
-shared-slice-read-if1 : tie.Need-shared-slice-read-if1 Inv-loop μ-loop
-shared-slice-read-if1 c = search needs
-
-returns : tie.Need-returns Inv-loop μ-loop
-returns c = search (byte-found 35)
-
-add-i : tie.Need-add-i Inv-loop μ-loop
-add-i c = search needs
-
-loop-less : tie.Need-loop-less Inv-loop μ-loop
-loop-less c = search needs
-
-loop-again : tie.Need-loop-again Inv-loop μ-loop
-loop-again c = search (byte-more 35)
-
-returns-2 : tie.Need-returns-2 Inv-loop μ-loop
-returns-2 c = search seek-end
-
 pub comment-start-spec : {M : Type 1} → statement M
-comment-start-spec =
-    tie.close
-    (tie.spec
-    Inv-loop
-    μ-loop
-    loop-holds
-    shared-slice-read-if1
-    returns
-    add-i
-    loop-less
-    loop-again
-    returns-2)
+comment-start-spec = tie.close (tie.spec (λ c κs. search needs) (λ c. search (first-twice 35)))
