@@ -1,5 +1,7 @@
 -- `replay_answers::put_deleting` meets its contract. Assumes nothing.
-use Rattle.replay_answers.proofs.Laws.{as-deleting}
+use Rattle.replay_answers.proofs.Laws.{as-known, short}
+use Rattle.model.specs.Said.{said-deleting}
+use Rattle.replay_answers.specs.Text.{text}
 use borrow.Author.Needs.{needs}
 use Rattle.replay_answers.proofs.put_deleting.Statement.{statement}
 use Rattle.replay_answers.proofs.put_deleting.Tie as tie
@@ -26,13 +28,13 @@ same-length : tie.Need-same-length
 same-length c = search needs
 
 returns : tie.Need-returns
-returns c = (search as-deleting, search needs)
+returns c = (search (as-known (λ s. text (said-deleting s))), search (short, needs))
 
 same-length-2 : tie.Need-same-length-2
 same-length-2 c = search needs
 
 returns-2 : tie.Need-returns-2
-returns-2 c = (search as-deleting, search needs)
+returns-2 c = (search (as-known (λ s. text (said-deleting s))), search needs)
 
 pub put-deleting-spec : {M : Type 1} → statement M
 put-deleting-spec =

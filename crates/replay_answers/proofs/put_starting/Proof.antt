@@ -1,5 +1,7 @@
 -- `replay_answers::put_starting` meets its contract. Assumes nothing.
-use Rattle.replay_answers.proofs.Laws.{as-starting}
+use Rattle.replay_answers.proofs.Laws.{as-known, short}
+use Rattle.model.specs.Said.{said-starting}
+use Rattle.replay_answers.specs.Text.{text}
 use borrow.Author.Needs.{needs}
 use Rattle.replay_answers.proofs.put_starting.Statement.{statement}
 use Rattle.replay_answers.proofs.put_starting.Tie as tie
@@ -26,13 +28,13 @@ same-length : tie.Need-same-length
 same-length c = search needs
 
 returns : tie.Need-returns
-returns c = (search as-starting, search needs)
+returns c = (search (as-known (λ s. text (said-starting s))), search (short, needs))
 
 same-length-2 : tie.Need-same-length-2
 same-length-2 c = search needs
 
 returns-2 : tie.Need-returns-2
-returns-2 c = (search as-starting, search needs)
+returns-2 c = (search (as-known (λ s. text (said-starting s))), search needs)
 
 pub put-starting-spec : {M : Type 1} → statement M
 put-starting-spec =
