@@ -1,10 +1,12 @@
 -- Answers and their lines, by computation. Assumes nothing.
 use mathlib.Core.Path.{_≡_, refl}
+use mathlib.Core.Bool.{true, false}
 use mathlib.Core.List.{[], _∷_}
-use Rattle.replay_words.specs.Text.{bytes}
-use Rattle.replay_words.specs.Print.{decimal-of, digits}
+use Rattle.model.specs.Memory.{mem}
 use Rattle.model.specs.Answers.{refused, absent, fresh, old, ahead, stored, deleted, evicted, started, listed}
-use Rattle.replay_answers.specs.Text.{not-understood, numbered, text, told}
+use Rattle.replay_print.specs.Text.{bytes}
+use Rattle.replay_print.specs.Print.{decimal-of, digits, hex-digit, hex-of, hexes, numbered, record-lines, told}
+use Rattle.replay_answers.specs.Text.{dump, not-understood, poke-told, text}
 
 pub lines :
     (text (refused 10) ≡ bytes "refused 10\n")
@@ -16,7 +18,11 @@ pub lines :
     × (text deleted ≡ bytes "deleted\n")
     × (text (evicted 18446744073709551615 2048 1023) ≡ bytes "evicted 18446744073709551615 2048 1023\n")
     × (text started ≡ bytes "fresh\n")
-    × (text (listed 1 (7 ∷ [])) ≡ bytes "listed 1\n")
+    × (text (listed 1 (1 ∷ 0 ∷ 0 ∷ 0 ∷ 0 ∷ 0 ∷ 0 ∷ 0 ∷ 175 ∷ 0 ∷ 0 ∷ 0 ∷ 2 ∷ 0 ∷ 0 ∷ 0 ∷ 0 ∷ 0 ∷ 0 ∷ 16 ∷ []))
+        ≡ bytes "listed 1\n0100000000000000af0000000200000000000010\n")
     × (not-understood 12 ≡ bytes "line 12: not understood\n")
-unfolding told numbered decimal-of digits
-lines = (refl, refl, refl, refl, refl, refl, refl, refl, refl, refl, refl)
+    × (dump (mem (65536 ∷ 0 ∷ []) (2 ∷ []) (7 ∷ 5 ∷ 2 ∷ 1 ∷ [])) ≡ bytes "slots 65536 0\ncounters 2\nitems 7 5 2 1\n")
+    × (poke-told true ≡ bytes "poked\n")
+    × (poke-told false ≡ bytes "no such word\n")
+unfolding told numbered decimal-of digits record-lines hexes hex-of hex-digit
+lines = (refl, refl, refl, refl, refl, refl, refl, refl, refl, refl, refl, refl, refl, refl)

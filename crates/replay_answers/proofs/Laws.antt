@@ -1,65 +1,50 @@
--- One part of a line behind the other. Assumes nothing.
-use Prim.Native.Nat.{ℕ}
-use mathlib.Core.Path.{_≡_, refl, sym, ap, _∙_}
-use mathlib.Core.List.{List, [], _∷_, _++_, append-assoc}
-use Rattle.replay_words.specs.Text.{bytes}
-use Rattle.replay_words.specs.Print.{Put, decimal-of}
-use Rattle.replay_words.proofs.Printing.{put-both}
-use Rattle.model.specs.Said.{said-reading, said-setting, said-deleting, said-evicting, said-starting}
-use Rattle.model.specs.declared.Reading.{Reading}
-use Rattle.model.specs.declared.Setting.{Setting}
-use Rattle.model.specs.declared.Deleting.{Deleting}
-use Rattle.model.specs.declared.Evicting.{Evicting}
-use Rattle.model.specs.declared.Starting.{Starting}
-use Rattle.replay_answers.specs.Text.{line, numbered, told, text, not-understood}
+-- One part of a text behind the other. Assumes nothing.
+use Prim.Native.Nat.{ℕ, _+_, _*_, _≤_}
+use native.Mathlib.Omega.{arith}
+use mathlib.Core.Path.{_≡_, sym}
+use mathlib.Core.List.{List, [], _∷_, _++_}
+use lib.ListN.{length, take, length-take}
+use lib.Seq.{length-take-le}
+use Rattle.model.specs.Memory.{Mem}
+use Rattle.model.specs.Said.{said-listing}
+use Rattle.model.specs.declared.Listing.{Listing}
+use Rattle.model.specs.declared.Listing.the-variants.{Listed}
+use Rattle.buffer.specs.Put.{Put}
+use Rattle.buffer.proofs.Putting.{put-both}
+use Rattle.replay_print.specs.Text.{bytes}
+use Rattle.replay_print.specs.Print.{line, numbered, record-lines, told}
+use Rattle.replay_answers.specs.Text.{Counted, dump, not-understood, text}
 
--- the numbers behind a word are a line with no word
-told-behind : (word ns : List ℕ) → told word ns ≡ word ++ told [] ns
-unfolding told numbered
-told-behind word [] = refl
-told-behind word (n ∷ ns) =
-    told-behind (numbered word n) ns ∙ ap (λ (l : List ℕ). l ++ told [] ns) (append-assoc word (bytes " ") (decimal-of n))
-    ∙ append-assoc word (numbered [] n) (told [] ns)
-    ∙ ap (λ (l : List ℕ). word ++ l) (sym (told-behind (numbered [] n) ns))
+-- what is known is told as itself
+pub as-known : {A : Type 0} (f : A → List ℕ) {said known : A} {at r : ℕ} {before after : List ℕ} → said ≡ known → Put (f known) at before after r
+    → Put (f said) at before after r
+as-known f e p = rw e p
 
-module _ {at r s : ℕ} {before middle after : List ℕ} where
-  pub put-ended : (words : List ℕ) → Put words at before middle r → Put (bytes "\n") r middle after s → Put (line words) at before after s
-  put-ended words p q = put-both p q
+pub as-beside : {A B : Type 0} (f : A → B → List ℕ) (b : B) {said known : A} {at r : ℕ} {before after : List ℕ} → said ≡ known
+    → Put (f known b) at before after r → Put (f said b) at before after r
+as-beside f b = as-known (λ s. f s b)
 
-  pub put-behind : (word : List ℕ) (a : ℕ) (ns : List ℕ) → Put (numbered word a) at before middle r → Put (told [] ns) r middle after s
-      → Put (told word (a ∷ ns)) at before after s
-  unfolding told
-  put-behind word a ns p q = rw (told-behind (numbered word a) ns) (put-both p q)
+module _ {at r : ℕ} {before after : List ℕ} where
+  -- a line of words is short
+  pub short : (words : List ℕ) → Put (line words) at before after r → length (line words) ≤ 384 → r ≤ at + 384
+  short words p h = omega (arith, p .next)
 
-  pub put-last : (word : List ℕ) (a : ℕ) → Put (numbered word a) at before middle r → Put (line []) r middle after s
-      → Put (told word (a ∷ [])) at before after s
-  unfolding told
-  put-last word a p q = put-both p q
-
-  pub put-line-number : (n : ℕ) → Put (numbered (bytes "line") n) at before middle r → Put (line (bytes ": not understood")) r middle after s
-      → Put (not-understood n) at before after s
+  pub put-line-number : {middle : List ℕ} {s : ℕ} (n : ℕ) → Put (numbered (bytes "line") n) at before middle s
+      → Put (line (bytes ": not understood")) s middle after r → Put (not-understood n) at before after r
   unfolding numbered
   put-line-number n p q = put-both p q
 
-  pub put-number : {next : List ℕ} {t : ℕ} (word : List ℕ) (n : ℕ) → Put word at before middle r → Put (bytes " ") r middle next t
-      → Put (decimal-of n) t next after s → Put (numbered word n) at before after s
-  unfolding numbered
-  put-number word n p q d = put-both (put-both p q) d
+-- the three runs of a dump
+pub put-runs : {at r s t : ℕ} {before middle next after : List ℕ} (m : Mem) → Put (told (bytes "slots") (m .slots)) at before middle r
+    → Put (told (bytes "counters") (m .counters)) r middle next s → Put (told (bytes "items") (m .items)) s next after t → Put (dump m) at before after t
+put-runs m p q l = put-both (put-both p q) l
 
--- an answer that is known is told as itself
-module _ {at r : ℕ} {before after : List ℕ} where
-  pub as-reading : {said known : Reading} → said ≡ known → Put (text (said-reading known)) at before after r → Put (text (said-reading said)) at before after r
-  as-reading e p = rw e p
+-- the front of a run has the length that it is cut to
+pub front : (n : ℕ) (run : List ℕ) → n ≤ length run → n ≡ length (take n run)
+front n run h = sym (length-take-le n run h)
 
-  pub as-setting : {said known : Setting} → said ≡ known → Put (text (said-setting known)) at before after r → Put (text (said-setting said)) at before after r
-  as-setting e p = rw e p
-
-  pub as-deleting : {said known : Deleting} → said ≡ known → Put (text (said-deleting known)) at before after r → Put (text (said-deleting said)) at before after r
-  as-deleting e p = rw e p
-
-  pub as-evicting : {said known : Evicting} (hand : ℕ) → said ≡ known → Put (text (said-evicting known hand)) at before after r
-      → Put (text (said-evicting said hand)) at before after r
-  as-evicting hand e p = rw e p
-
-  pub as-starting : {said known : Starting} → said ≡ known → Put (text (said-starting known)) at before after r → Put (text (said-starting said)) at before after r
-  as-starting e p = rw e p
+-- the records that a list counts are there
+pub counted-in : {said : Listing} {n : ℕ} (bs : List ℕ) → said ≡ Listed n → Counted (said-listing said bs) → 20 * n ≤ length bs
+counted-in {said} {n} bs e h =
+    let l : 20 * n ≤ length (take (20 * n) bs) = rw e at h in
+    omega (arith, length-take (20 * n) bs)

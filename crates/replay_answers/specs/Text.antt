@@ -1,24 +1,15 @@
 -- The answers of the table as the replay program's lines, in bytes with the LF. Assumes nothing.
-use Prim.Native.Nat.{ℕ}
+use Prim.Native.Nat.{ℕ, _*_, _≤_}
+use mathlib.Core.Bool.{Bool, true, false}
 use mathlib.Core.List.{List, [], _∷_, _++_}
-use Rattle.replay_words.specs.Text.{bytes}
-use Rattle.replay_words.specs.Print.{decimal-of}
-use Rattle.model.specs.Answers.{Answer, refused, absent, fresh, old, ahead, stored, deleted, evicted, started, listed, at-place}
+use lib.ListN.{length, drop}
+use Rattle.model.specs.Choice.{choose}
+use Rattle.model.specs.Memory.{Mem}
+use Rattle.model.specs.Answers.{Answer, refused, absent, fresh, old, ahead, stored, deleted, evicted, started, listed, at-place, is, paper, value}
+use Rattle.replay_print.specs.Text.{bytes}
+use Rattle.replay_print.specs.Print.{decimal-of, line, record-lines, told}
 
--- the words of a line and its end
-abbrev pub line : List ℕ → List ℕ
-line words = words ++ bytes "\n"
-
--- a word and a number
-unfoldable pub numbered : List ℕ → ℕ → List ℕ
-numbered word n = word ++ bytes " " ++ decimal-of n
-
--- the line of a word and its numbers
-unfoldable pub told : List ℕ → List ℕ → List ℕ
-told word [] = line word
-told word (n ∷ ns) = told (numbered word n) ns
-
--- the line of an answer; behind that of a list its records come
+-- the line of an answer; behind that of a list its records
 abbrev pub text : Answer → List ℕ
 text (refused n) = told (bytes "refused") (n ∷ [])
 text absent = line (bytes "absent")
@@ -29,9 +20,22 @@ text (stored v n) = told (bytes "stored") (v ∷ n ∷ [])
 text deleted = line (bytes "deleted")
 text (evicted x n h) = told (bytes "evicted") (x ∷ n ∷ h ∷ [])
 text started = line (bytes "fresh")
-text (listed n bs) = told (bytes "listed") (n ∷ [])
+text (listed n bs) = told (bytes "listed") (n ∷ []) ++ record-lines n bs
 text (at-place p) = told (bytes "place") (p ∷ [])
+
+-- a list has 20 bytes a record
+abbrev pub Counted : Answer → Type 0
+Counted a = 20 * choose (is 8 a) (value a 1) 0 ≤ length (drop 2 (paper a .values))
 
 -- the answer to line n if it says nothing that the language has
 abbrev pub not-understood : ℕ → List ℕ
 not-understood n = bytes "line " ++ decimal-of n ++ bytes ": not understood\n"
+
+-- every word of the three runs
+abbrev pub dump : Mem → List ℕ
+dump m = told (bytes "slots") (m .slots) ++ told (bytes "counters") (m .counters) ++ told (bytes "items") (m .items)
+
+-- the answer to a poke: whether it was made
+abbrev pub poke-told : Bool → List ℕ
+poke-told true = line (bytes "poked")
+poke-told false = line (bytes "no such word")
