@@ -44,7 +44,5 @@ pub front : (n : ℕ) (run : List ℕ) → n ≤ length run → n ≡ length (ta
 front n run h = sym (length-take-le n run h)
 
 -- the records that a list counts are there
-pub counted-in : {said : Listing} {n : ℕ} (bs : List ℕ) → said ≡ Listed n → Counted (said-listing said bs) → 20 * n ≤ length bs
-counted-in {said} {n} bs e h =
-    let l : 20 * n ≤ length (take (20 * n) bs) = rw e at h in
-    omega (arith, length-take (20 * n) bs)
+pub counted-in : {said : Listing} {n : ℕ} (bs : List ℕ) → said ≡ Listed n → Counted said bs → 20 * n ≤ length bs
+counted-in bs e h = rw e at h

@@ -2,10 +2,11 @@
 use Prim.Native.Nat.{ℕ, _*_, _≤_}
 use mathlib.Core.Bool.{Bool, true, false}
 use mathlib.Core.List.{List, [], _∷_, _++_}
-use lib.ListN.{length, drop}
-use Rattle.model.specs.Choice.{choose}
+use lib.ListN.{length}
 use Rattle.model.specs.Memory.{Mem}
-use Rattle.model.specs.Answers.{Answer, refused, absent, fresh, old, ahead, stored, deleted, evicted, started, listed, at-place, is, paper, value}
+use Rattle.model.specs.Answers.{Answer, refused, absent, fresh, old, ahead, stored, deleted, evicted, started, listed, at-place}
+use Rattle.model.specs.declared.Listing.{Listing}
+use Rattle.model.specs.declared.Listing.the-variants as list
 use Rattle.replay_print.specs.Text.{bytes}
 use Rattle.replay_print.specs.Print.{decimal-of, line, record-lines, told}
 
@@ -23,9 +24,10 @@ text started = line (bytes "fresh")
 text (listed n bs) = told (bytes "listed") (n ∷ []) ++ record-lines n bs
 text (at-place p) = told (bytes "place") (p ∷ [])
 
--- a list has 20 bytes a record
-abbrev pub Counted : Answer → Type 0
-Counted a = 20 * choose (is 8 a) (value a 1) 0 ≤ length (drop 2 (paper a .values))
+-- the records of a list are there, 20 bytes each
+abbrev pub Counted : Listing → List ℕ → Type 0
+Counted (list.Listed n) bs = 20 * n ≤ length bs
+Counted (list.Refused n) bs = Unit {0}
 
 -- the answer to line n if it says nothing that the language has
 abbrev pub not-understood : ℕ → List ℕ

@@ -102,7 +102,7 @@ fn put_listed(buffer: &mut [u8], at: usize, n: usize, records: &[u8]) -> usize
 
 // The list's line and its records.
 pub fn put_listing(buffer: &mut [u8], at: usize, said: Listing, records: &[u8]) -> usize
-    requires { ⌜ Counted (said-listing said (now records)) ⌝ }
+    requires { ⌜ Counted said (now records) ⌝ }
     requires { ⌜ at + 384 + 3 * length (now records) ≤ length (now buffer) ⌝ }
     ensures { λ r. ⌜ Put (text (said-listing said (now (records .entry)))) at (now (buffer .entry)) (now (buffer .exit)) r
         × (r ≤ at + 384 + 3 * length (now (records .entry))) ⌝ }

@@ -1,5 +1,4 @@
 // What the replay program does beside the table's calls: it pokes words, and prints the list.
-ghost use mathlib.Core.Path.{_≡_};
 ghost use Prim.Native.Nat.{_+_, _*_, _≤_};
 ghost use lib.ListN.{length};
 ghost use Rattle.model.specs.Memory.{mem};
@@ -36,21 +35,12 @@ pub fn poke64(run: &mut [u64], at: u64, word: u64) -> bool
     true
 }
 
-// The list into the first `size` bytes lent for it, and its lines.
-pub fn put_list(
-    slots: &[u32],
-    counters: &[u32],
-    items: &[u64],
-    records: &mut [u8],
-    size: usize,
-    out: &mut [u8],
-    at: usize,
-) -> usize
-    requires { ⌜ size ≤ length (now records) ⌝ }
-    requires { ⌜ at + 384 + 3 * size ≤ length (now out) ⌝ }
-    ensures { λ r. ⌜ Put (text (lent-call four (mem (now (slots .entry)) (now (counters .entry)) (now (items .entry))) (write-list size) .answer))
-        at (now (out .entry)) (now (out .exit)) r × (r ≤ at + 384 + 3 * size) ⌝ }
+// The list into the bytes lent for it, and its lines.
+pub fn put_list(slots: &[u32], counters: &[u32], items: &[u64], records: &mut [u8], out: &mut [u8], at: usize) -> usize
+    requires { ⌜ at + 384 + 3 * length (now records) ≤ length (now out) ⌝ }
+    ensures { λ r. ⌜ Put (text (lent-call four (mem (now (slots .entry)) (now (counters .entry)) (now (items .entry))) (write-list (length (now (records .entry)))) .answer))
+        at (now (out .entry)) (now (out .exit)) r × (r ≤ at + 384 + 3 * length (now (records .entry))) ⌝ }
 {
-    let said = listing::list(slots, counters, items, &mut records[..size]);
-    replay_answers::put_listing(out, at, said, &records[..size])
+    let said = listing::list(slots, counters, items, records);
+    replay_answers::put_listing(out, at, said, records)
 }

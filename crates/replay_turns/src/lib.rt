@@ -127,8 +127,9 @@ fn list_line(
             hand,
         };
     }
+    let end = size as usize;
     Turn {
-        next: replay_shows::put_list(slots, counters, items, records, size as usize, out, at),
+        next: replay_shows::put_list(slots, counters, items, &mut records[..end], out, at),
         hand,
     }
 }
