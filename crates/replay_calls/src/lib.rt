@@ -157,8 +157,8 @@ pub fn answer_evict_cut(
     ensures { λ r. ⌜ r .hand ≡ hand-back hand (answer-of (mem (now (slots .entry)) (now (counters .entry)) (now (items .entry))) (evict hand)) ⌝ }
 {
     let turned = evicting::evict_cut(slots, counters, items, Hand { at: hand }, k);
-    let new_hand = turned.hand.at;
+    let moved = turned.hand.at;
     let said = turned.answer;
-    let next = replay_answers::put_evicting(out, at, said, new_hand as u64);
-    Turn { next, hand: new_hand }
+    let next = replay_answers::put_evicting(out, at, said, moved as u64);
+    Turn { next, hand: moved }
 }
