@@ -19,7 +19,7 @@ pub lines :
     × (text (evicted 18446744073709551615 2048 1023) ≡ bytes "evicted 18446744073709551615 2048 1023\n")
     × (text started ≡ bytes "fresh\n")
     × (text (listed 1 (1 ∷ 0 ∷ 0 ∷ 0 ∷ 0 ∷ 0 ∷ 0 ∷ 0 ∷ 175 ∷ 0 ∷ 0 ∷ 0 ∷ 2 ∷ 0 ∷ 0 ∷ 0 ∷ 0 ∷ 0 ∷ 0 ∷ 16 ∷ []))
-        ≡ bytes "listed 1\n0100000000000000af0000000200000000000010\n")
+    ≡ bytes "listed 1\n0100000000000000af0000000200000000000010\n")
     × (not-understood 12 ≡ bytes "line 12: not understood\n")
     × (dump (mem (65536 ∷ 0 ∷ []) (2 ∷ []) (7 ∷ 5 ∷ 2 ∷ 1 ∷ [])) ≡ bytes "slots 65536 0\ncounters 2\nitems 7 5 2 1\n")
     × (poke-told true ≡ bytes "poked\n")

@@ -1,8 +1,8 @@
--- One part of a text behind the other. Assumes nothing.
+-- Laws on the lines of answers. Assumes nothing.
 use Prim.Native.Nat.{ℕ, _+_, _*_, _≤_}
 use native.Mathlib.Omega.{arith}
 use mathlib.Core.Path.{_≡_, sym}
-use mathlib.Core.List.{List, [], _∷_, _++_}
+use mathlib.Core.List.{List}
 use lib.ListN.{length, take, length-take}
 use lib.Seq.{length-take-le}
 use Rattle.model.specs.Memory.{Mem}
@@ -12,8 +12,8 @@ use Rattle.model.specs.declared.Listing.the-variants.{Listed}
 use Rattle.buffer.specs.Put.{Put}
 use Rattle.buffer.proofs.Putting.{put-both}
 use Rattle.replay_print.specs.Text.{bytes}
-use Rattle.replay_print.specs.Print.{line, numbered, record-lines, told}
-use Rattle.replay_answers.specs.Text.{Counted, dump, not-understood, text}
+use Rattle.replay_print.specs.Print.{line, numbered, told}
+use Rattle.replay_answers.specs.Text.{Counted, dump, not-understood}
 
 -- what is known is told as itself
 pub as-known : {A : Type 0} (f : A → List ℕ) {said known : A} {at r : ℕ} {before after : List ℕ} → said ≡ known → Put (f known) at before after r

@@ -4,15 +4,16 @@ use mathlib.Core.Path.{_≡_}
 use mathlib.Core.List.{List}
 use Rattle.model.specs.Memory.{Mem}
 use Rattle.model.specs.Shape.{four}
-use Rattle.model.specs.Answers.{Answer, Call}
+use Rattle.model.specs.Answers.{Answer}
+use Rattle.model.specs.Calling.{Call}
 use Rattle.model.specs.Lent.{lent-after, lent-call, lent-cut}
-use Rattle.replay_words.specs.Print.{Put}
+use Rattle.buffer.specs.Put.{Put}
 use Rattle.replay_answers.specs.Text.{text}
 
--- the line of answer a stands in the buffer from a position on, r is the position behind it, at most 96 bytes on
+-- the line of answer a stands in the buffer from a position on, r is the position behind it, at most 384 bytes on
 pub record Told (a : Answer) (at : ℕ) (before after : List ℕ) (r : ℕ) : Type 0 where
   pub line : Put (text a) at before after r
-  pub room : r ≤ at + 96
+  pub room : r ≤ at + 384
 
 -- what the call c answers on the memory m
 abbrev pub answer-of : Mem → Call → Answer

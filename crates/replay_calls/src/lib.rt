@@ -3,9 +3,10 @@ ghost use mathlib.Core.Path.{_≡_};
 ghost use Prim.Native.Nat.{_+_, _≤_};
 ghost use lib.ListN.{length};
 ghost use Rattle.model.specs.Memory.{mem};
-ghost use Rattle.model.specs.Shape.{};
-ghost use Rattle.model.specs.Answers.{read, serve, set-animal, delete, evict, hand-back};
+ghost use Rattle.model.specs.Answers.{hand-back};
+ghost use Rattle.model.specs.Calling.{read, serve, set-animal, delete, evict};
 ghost use Rattle.replay_calls.specs.Told.{Told, Whole, Cut, answer-of};
+use model::Grant;
 use places::Hand;
 
 // Read, with the line of its answer.
@@ -19,7 +20,7 @@ pub fn answer_read(
     out: &mut [u8],
     at: usize,
 ) -> usize
-    requires { ⌜ at + 96 ≤ length (now out) ⌝ }
+    requires { ⌜ at + 384 ≤ length (now out) ⌝ }
     ensures { λ r. ⌜ Told (answer-of (mem (now (slots .entry)) (now (counters .entry)) (now (items .entry))) (read animal limit minute))
         at (now (out .entry)) (now (out .exit)) r ⌝ }
 {
@@ -38,7 +39,7 @@ pub fn answer_serve(
     out: &mut [u8],
     at: usize,
 ) -> usize
-    requires { ⌜ at + 96 ≤ length (now out) ⌝ }
+    requires { ⌜ at + 384 ≤ length (now out) ⌝ }
     ensures { λ r. ⌜ Whole (mem (now (slots .entry)) (now (counters .entry)) (now (items .entry))) (serve animal limit minute)
         (mem (now (slots .entry)) (now (counters .entry)) (now (items .exit))) at (now (out .entry)) (now (out .exit)) r ⌝ }
 {
@@ -51,18 +52,15 @@ pub fn answer_set(
     slots: &mut [u32],
     counters: &mut [u32],
     items: &mut [u64],
-    animal: u64,
-    permission: u32,
-    minute: u64,
-    standing: bool,
+    g: Grant,
     out: &mut [u8],
     at: usize,
 ) -> usize
-    requires { ⌜ at + 96 ≤ length (now out) ⌝ }
-    ensures { λ r. ⌜ Whole (mem (now (slots .entry)) (now (counters .entry)) (now (items .entry))) (set-animal animal permission minute standing)
+    requires { ⌜ at + 384 ≤ length (now out) ⌝ }
+    ensures { λ r. ⌜ Whole (mem (now (slots .entry)) (now (counters .entry)) (now (items .entry))) (set-animal g)
         (mem (now (slots .exit)) (now (counters .exit)) (now (items .exit))) at (now (out .entry)) (now (out .exit)) r ⌝ }
 {
-    let said = setting::set(slots, counters, items, animal, permission, minute, standing);
+    let said = setting::set(slots, counters, items, g);
     replay_answers::put_setting(out, at, said)
 }
 
@@ -70,28 +68,16 @@ pub fn answer_set_cut(
     slots: &mut [u32],
     counters: &mut [u32],
     items: &mut [u64],
-    animal: u64,
-    permission: u32,
-    minute: u64,
-    standing: bool,
+    g: Grant,
     k: u64,
     out: &mut [u8],
     at: usize,
 ) -> usize
-    requires { ⌜ at + 96 ≤ length (now out) ⌝ }
-    ensures { λ r. ⌜ Cut (mem (now (slots .entry)) (now (counters .entry)) (now (items .entry))) (set-animal animal permission minute standing) k
+    requires { ⌜ at + 384 ≤ length (now out) ⌝ }
+    ensures { λ r. ⌜ Cut (mem (now (slots .entry)) (now (counters .entry)) (now (items .entry))) (set-animal g) k
         (mem (now (slots .exit)) (now (counters .exit)) (now (items .exit))) at (now (out .entry)) (now (out .exit)) r ⌝ }
 {
-    let said = setting::set_cut(
-        slots,
-        counters,
-        items,
-        animal,
-        permission,
-        minute,
-        standing,
-        k,
-    );
+    let said = setting::set_cut(slots, counters, items, g, k);
     replay_answers::put_setting(out, at, said)
 }
 
@@ -104,11 +90,11 @@ pub fn answer_delete(
     out: &mut [u8],
     at: usize,
 ) -> usize
-    requires { ⌜ at + 96 ≤ length (now out) ⌝ }
+    requires { ⌜ at + 384 ≤ length (now out) ⌝ }
     ensures { λ r. ⌜ Whole (mem (now (slots .entry)) (now (counters .entry)) (now (items .entry))) (delete animal)
         (mem (now (slots .exit)) (now (counters .exit)) (now (items .exit))) at (now (out .entry)) (now (out .exit)) r ⌝ }
 {
-    let said = writing::delete(slots, counters, items, animal);
+    let said = deleting::delete(slots, counters, items, animal);
     replay_answers::put_deleting(out, at, said)
 }
 
@@ -121,11 +107,11 @@ pub fn answer_delete_cut(
     out: &mut [u8],
     at: usize,
 ) -> usize
-    requires { ⌜ at + 96 ≤ length (now out) ⌝ }
+    requires { ⌜ at + 384 ≤ length (now out) ⌝ }
     ensures { λ r. ⌜ Cut (mem (now (slots .entry)) (now (counters .entry)) (now (items .entry))) (delete animal) k
         (mem (now (slots .exit)) (now (counters .exit)) (now (items .exit))) at (now (out .entry)) (now (out .exit)) r ⌝ }
 {
-    let said = writing::delete_cut(slots, counters, items, animal, k);
+    let said = deleting::delete_cut(slots, counters, items, animal, k);
     replay_answers::put_deleting(out, at, said)
 }
 
@@ -144,7 +130,7 @@ pub fn answer_evict(
     out: &mut [u8],
     at: usize,
 ) -> Turn
-    requires { ⌜ at + 96 ≤ length (now out) ⌝ }
+    requires { ⌜ at + 384 ≤ length (now out) ⌝ }
     ensures { λ r. ⌜ Whole (mem (now (slots .entry)) (now (counters .entry)) (now (items .entry))) (evict hand)
         (mem (now (slots .exit)) (now (counters .exit)) (now (items .exit))) at (now (out .entry)) (now (out .exit)) (r .next) ⌝ }
     ensures { λ r. ⌜ r .hand ≡ hand-back hand (answer-of (mem (now (slots .entry)) (now (counters .entry)) (now (items .entry))) (evict hand)) ⌝ }
@@ -165,14 +151,14 @@ pub fn answer_evict_cut(
     out: &mut [u8],
     at: usize,
 ) -> Turn
-    requires { ⌜ at + 96 ≤ length (now out) ⌝ }
+    requires { ⌜ at + 384 ≤ length (now out) ⌝ }
     ensures { λ r. ⌜ Cut (mem (now (slots .entry)) (now (counters .entry)) (now (items .entry))) (evict hand) k
         (mem (now (slots .exit)) (now (counters .exit)) (now (items .exit))) at (now (out .entry)) (now (out .exit)) (r .next) ⌝ }
     ensures { λ r. ⌜ r .hand ≡ hand-back hand (answer-of (mem (now (slots .entry)) (now (counters .entry)) (now (items .entry))) (evict hand)) ⌝ }
 {
     let turned = evicting::evict_cut(slots, counters, items, Hand { at: hand }, k);
-    let back = turned.hand.at;
+    let moved = turned.hand.at;
     let said = turned.answer;
-    let next = replay_answers::put_evicting(out, at, said, back as u64);
-    Turn { next, hand: back }
+    let next = replay_answers::put_evicting(out, at, said, moved as u64);
+    Turn { next, hand: moved }
 }

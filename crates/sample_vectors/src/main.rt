@@ -5,6 +5,7 @@ ghost use lib.ListN.{length};
 ghost use Rattle.model.specs.Hash.{fnv};
 use libc::STDOUT_FILENO;
 use model::Evicting;
+use model::Grant;
 use model::Reading;
 use model::Setting;
 use model::Starting;
@@ -37,26 +38,26 @@ fn say_first(line: &[u8], n: usize)
 }
 
 fn say_starting(said: Starting) {
-    let mut line = [0u8; 96];
+    let mut line = [0u8; 384];
     let n = replay_answers::put_starting(&mut line, 0, said);
     say_first(&line, n);
 }
 
 fn say_setting(said: Setting) {
-    let mut line = [0u8; 96];
+    let mut line = [0u8; 384];
     let n = replay_answers::put_setting(&mut line, 0, said);
     say_first(&line, n);
 }
 
 fn say_reading(said: Reading) {
-    let mut line = [0u8; 96];
+    let mut line = [0u8; 384];
     let n = replay_answers::put_reading(&mut line, 0, said);
     say_first(&line, n);
 }
 
 // The victim, the places looked at and the hand.
 fn say_evicting(said: Evicting, hand: u64) {
-    let mut line = [0u8; 96];
+    let mut line = [0u8; 384];
     let n = replay_answers::put_evicting(&mut line, 0, said, hand);
     say_first(&line, n);
 }
@@ -64,17 +65,8 @@ fn say_evicting(said: Evicting, hand: u64) {
 // The two hexadecimal digits of a byte.
 fn say_byte(b: u8) {
     let mut two = [0u8; 2];
-    replay_words::put_hex_byte(&mut two, 0, b);
+    replay_print::put_hex_byte(&mut two, 0, b);
     say(&two);
-}
-
-// Two digits for each byte.
-fn say_bytes(bytes: &[u8]) {
-    let mut i: usize = 0;
-    while i < bytes.len() {
-        say_byte(bytes[i]);
-        i += 1;
-    }
 }
 
 // FNV-1a over some bytes, by the step that the hash of an animal is made of.
@@ -103,6 +95,16 @@ fn say_fnv(text: &[u8]) {
     say(b"\n");
 }
 
+// Animal 1 with permission 5 at minute 2.
+fn grant() -> Grant {
+    Grant {
+        animal: 1,
+        permission: 5,
+        minute: 2,
+        standing: false,
+    }
+}
+
 // Slots length 16,384 is refusal 1, and 8,192 is good.
 fn lengths() {
     let mut more = too_many_slots();
@@ -110,9 +112,9 @@ fn lengths() {
     let mut counters = [0u32; 1024];
     let mut items = most_items();
     say(b"slots length 16384: ");
-    say_starting(writing::fresh(&mut more, &mut counters, &mut items));
+    say_starting(starting::fresh(&mut more, &mut counters, &mut items));
     say(b"slots length 8192: ");
-    say_starting(writing::fresh(&mut slots, &mut counters, &mut items));
+    say_starting(starting::fresh(&mut slots, &mut counters, &mut items));
 }
 
 // The whole list of a table with one animal: 20 bytes. The buffer is not zero before.
@@ -121,12 +123,13 @@ fn one_record() {
     let mut counters = [0u32; 1];
     let mut items = [0u64; 4];
     let mut record = [255u8; 20];
-    writing::fresh(&mut slots, &mut counters, &mut items);
-    setting::set(&mut slots, &mut counters, &mut items, 1, 5, 2, false);
+    starting::fresh(&mut slots, &mut counters, &mut items);
+    setting::set(&mut slots, &mut counters, &mut items, grant());
     listing::list(&slots, &counters, &items, &mut record);
     say(b"list of animal 1, permission 5, stamp 2: ");
-    say_bytes(&record);
-    say(b"\n");
+    let mut line = [0u8; 384];
+    let n = replay_print::put_records(&mut line, 0, 1, &record);
+    say_first(&line, n);
 }
 
 // The published vectors.
@@ -144,9 +147,9 @@ fn largest() {
     let mut counters = [0u32; 1024];
     let mut items = most_items();
     say(b"4096 places: ");
-    say_starting(writing::fresh(&mut slots, &mut counters, &mut items));
+    say_starting(starting::fresh(&mut slots, &mut counters, &mut items));
     say(b"4096 places, set 1: ");
-    say_setting(setting::set(&mut slots, &mut counters, &mut items, 1, 5, 2, false));
+    say_setting(setting::set(&mut slots, &mut counters, &mut items, grant()));
     say(b"4096 places, read 1: ");
     say_reading(reading::read(&slots, &counters, &items, 1, 720, 2));
     say(b"4096 places, evict with hand 1: ");

@@ -29,34 +29,16 @@ Inv-loop text h₀ i₀ h i = (i ≤ length text) × (fnv h (drop i text) ≡ fn
 abbrev μ-loop : tie.MeasureT-loop
 μ-loop text h₀ i₀ h i = length text - i
 
-loop-holds : tie.Need-loop-holds Inv-loop μ-loop
-loop-holds c = search needs
-
-shared-slice-read-fnv-byte : tie.Need-shared-slice-read-fnv-byte Inv-loop μ-loop
-shared-slice-read-fnv-byte c = search needs
-
-fnv-byte-requires : tie.Need-fnv-byte-requires Inv-loop μ-loop
-fnv-byte-requires c κs = search needs
-
-add-i : tie.Need-add-i Inv-loop μ-loop
-add-i c = search needs
-
-loop-less : tie.Need-loop-less Inv-loop μ-loop
-loop-less c = search needs
-
-loop-again : tie.Need-loop-again Inv-loop μ-loop
-loop-again c =
-    let at = c .before .before .before in
-    let text = at .before .before .args .text .now in
-    (search needs, one-byte text (at .loop .h) (at .loop .i) (c .fnv-byte .ensures) (search needs) (at .loop .inv .1))
-
-returns : tie.Need-returns Inv-loop μ-loop
-returns c =
-    let at = c .before in
-    let text = at .before .before .args .text .now in
-    no-byte text (at .loop .h) (at .loop .i) (search needs) (at .loop .inv .1)
-
 pub fnv-of-spec : {M : Type 1} → statement M
 fnv-of-spec =
     tie.close
-    (tie.spec Inv-loop μ-loop loop-holds shared-slice-read-fnv-byte fnv-byte-requires add-i loop-less loop-again returns)
+    (tie.spec
+    Inv-loop
+    μ-loop
+    (λ c. search needs)
+    (λ c. search needs)
+    (λ c κs. search needs)
+    (λ c. search needs)
+    (λ c. search needs)
+    (λ c. (search needs, search one-byte))
+    (λ c. search no-byte))
