@@ -5,6 +5,7 @@ ghost use lib.ListN.{length};
 ghost use Rattle.replay_words.specs.Words.{sought, is-end, is-comment, is-gap, is-no-gap, same, number};
 ghost use Rattle.replay_words.specs.Cursor.{First, PieceAt, NextWord, told};
 
+// Whether a byte is one of two, or neither if they are not wanted.
 fn is_sought(c: u8, a: u8, b: u8, wanted: bool) -> bool
     ensures { λ r. ⌜ r ≡ sought a b wanted c ⌝ }
 {
@@ -15,7 +16,7 @@ fn is_sought(c: u8, a: u8, b: u8, wanted: bool) -> bool
     !found
 }
 
-// The first byte at or after `at` that is one of two, or that is neither if they are not wanted; or the length.
+// The first byte at or after `at` that is sought, or the length.
 fn first(text: &[u8], at: usize, a: u8, b: u8, wanted: bool) -> usize
     requires { ⌜ at ≤ length (now text) ⌝ }
     ensures { λ r. ⌜ First (sought a b wanted) (now (text .entry)) at r ⌝ }
