@@ -25,52 +25,52 @@ abbrev pub answer : World → Call → Answer
 answer w c = lent-call four (w .memory) c .answer
 
 -- a call that only reads
-abbrev pub asks : Call → World → Reply
+unfoldable pub asks : Call → World → Reply
 asks c w = says (text (answer w c)) w
 
 -- a call, and one that is cut behind its first k stores: it answers as the whole one
-abbrev pub calls : Call → World → Reply
+unfoldable pub calls : Call → World → Reply
 calls c w = reply (text (answer w c)) (lent-after four (w .memory) c) (w .hand)
 
-abbrev pub cuts : ℕ → Call → World → Reply
+unfoldable pub cuts : ℕ → Call → World → Reply
 cuts k c w = reply (text (answer w c)) (lent-cut four k (w .memory) c) (w .hand)
 
 -- evict takes the hand and gives it back
-abbrev pub turns : World → Reply
+unfoldable pub turns : World → Reply
 turns w = reply (text (answer w (evict (w .hand)))) (lent-after four (w .memory) (evict (w .hand))) (hand-back (w .hand) (answer w (evict (w .hand))))
 
-abbrev pub cut-turns : ℕ → World → Reply
+unfoldable pub cut-turns : ℕ → World → Reply
 cut-turns k w = reply (text (answer w (evict (w .hand)))) (lent-cut four k (w .memory) (evict (w .hand))) (hand-back (w .hand) (answer w (evict (w .hand))))
 
 -- fresh: a table of these lengths, all zero, and the hand at 0, if the program holds as much and the lengths are good; else the table there was
 abbrev pub holds : ℕ → ℕ → ℕ → Bool
 holds s v i = leb s 8192 && (leb v 1024 && leb i 4096)
 
-abbrev pub starts : ℕ → ℕ → ℕ → World → Reply
+unfoldable pub starts : ℕ → ℕ → ℕ → World → Reply
 starts s v i w =
     choose (holds s v i && good-lengths four s v i) (reply (text started) (fresh-memory (shape four (s / 4) v (i / 4))) 0)
     (says (text (refused 1)) w)
 
 -- the hand is given
-abbrev pub hands : ℕ → World → Reply
+unfoldable pub hands : ℕ → World → Reply
 hands h w = reply (line (bytes "hand")) (w .memory) h
 
 -- the list into a buffer of that size; line n is not understood if the program has none so large
-abbrev pub lists : ℕ → ℕ → World → Reply
+unfoldable pub lists : ℕ → ℕ → World → Reply
 lists n size w = choose (leb size 81920) (asks (write-list size) w) (says (not-understood n) w)
 
 -- a poke of one of the runs
-abbrev pub pokes-slots : ℕ → ℕ → World → Reply
+unfoldable pub pokes-slots : ℕ → ℕ → World → Reply
 pokes-slots i x w =
     reply (poke-told (can-poke 4294967295 i x (w .memory .slots)))
     (mem (poked 4294967295 i x (w .memory .slots)) (w .memory .counters) (w .memory .items)) (w .hand)
 
-abbrev pub pokes-counters : ℕ → ℕ → World → Reply
+unfoldable pub pokes-counters : ℕ → ℕ → World → Reply
 pokes-counters i x w =
     reply (poke-told (can-poke 4294967295 i x (w .memory .counters)))
     (mem (w .memory .slots) (poked 4294967295 i x (w .memory .counters)) (w .memory .items)) (w .hand)
 
-abbrev pub pokes-items : ℕ → ℕ → World → Reply
+unfoldable pub pokes-items : ℕ → ℕ → World → Reply
 pokes-items i x w =
     reply (poke-told (can-poke 18446744073709551615 i x (w .memory .items)))
     (mem (w .memory .slots) (w .memory .counters) (poked 18446744073709551615 i x (w .memory .items))) (w .hand)
@@ -116,5 +116,5 @@ meant [] r n xs w = says (not-understood n) w
 meant (t ∷ ts) zero n xs w = t .means n (λ i. getD xs i 0) w
 meant (t ∷ ts) (suc r) n xs w = meant ts r n xs w
 
-abbrev pub meaning : ℕ → ℕ → List ℕ → World → Reply
+unfoldable pub meaning : ℕ → ℕ → List ℕ → World → Reply
 meaning r n xs w = meant rows r n xs w
