@@ -9,7 +9,9 @@ use Rattle.model.specs.Answers.{refused}
 use Rattle.replay_words.specs.Words.{lines}
 use Rattle.replay_answers.specs.Text.{text}
 use Rattle.replay_turns.specs.World.{World, Reply, world, longest}
+use Rattle.replay_turns.specs.Meaning.{meaning}
 use Rattle.replay_loop.specs.Replayed.{replayed}
+use Rattle.replay_loop.specs.declared.Read.{Read}
 use Rattle.replay_loop.specs.declared.State.{State}
 
 -- the world: the fronts of the program's runs that are in use, and the hand
@@ -49,13 +51,21 @@ pub record Refused (before : State) (out out′ : List ℕ) (after : State) : Ty
   pub same-number : after .number ≡ before .number
   pub same-from : after .from ≡ before .from
 
+-- the line at a position was read: its row and its numbers say what it is answered with, and the other lines are those behind it
+pub record LineRead (calls : List ℕ) (from : ℕ) (xs : List ℕ) (r : Read) : Type 0 where
+  pub forward : from < r .next
+  pub inside : r .next ≤ length calls
+  pub answers-first : (n : ℕ) (w : World) → replayed n w (lines (drop from calls))
+      ≡ meaning (r .row) (n + 1) xs w .text ++ replayed (n + 1) (meaning (r .row) (n + 1) xs w .world) (lines (drop (r .next) calls))
+
 -- some lines were answered: what is in the buffer and what is still to come is as before
 pub record Went (calls slots counters items out : List ℕ) (s : State) (slots′ counters′ items′ out′ : List ℕ) (s′ : State) : Type 0 where
   pub held : Held slots′ counters′ items′ s′
   pub inside : s′ .from ≤ length calls
   pub counted : s′ .number ≤ s′ .from
   pub onward : s .number ≤ s′ .number
-  pub forward : s .number < s′ .number → s .from < s′ .from
+  pub forward : s′ .number + s .from ≤ s′ .from + s .number
   pub few : s′ .at + longest * s .number ≤ s .at + longest * s′ .number
   pub long : length out′ ≡ length out
+  pub fits : s′ .at ≤ length out′
   pub answered : take (s′ .at) out′ ++ coming calls slots′ counters′ items′ s′ ≡ take (s .at) out ++ coming calls slots counters items s

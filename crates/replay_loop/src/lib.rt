@@ -7,7 +7,7 @@ ghost use Rattle.replay_turns.specs.Meaning.{meaning, starts};
 ghost use Rattle.replay_turns.specs.World.{longest};
 ghost use Rattle.replay_loop.specs.Replayed.{answers, language};
 ghost use Rattle.replay_lines.specs.Line.{said, padded};
-ghost use Rattle.replay_loop.specs.Standing.{in-use, Held, Stepped, Refused, Went};
+ghost use Rattle.replay_loop.specs.Standing.{in-use, Held, LineRead, Stepped, Refused, Went};
 use libc::STDOUT_FILENO;
 use model::Starting;
 
@@ -137,6 +137,24 @@ fn row_of(line: &[u8], numbers: &mut [u64]) -> usize
     )
 }
 
+// Which row the line at a position follows, and where the next line starts.
+struct Read {
+    row: usize,
+    next: usize,
+}
+
+fn read_line(calls: &[u8], from: usize, numbers: &mut [u64]) -> Read
+    requires { ⌜ (from < length (now calls)) × (length (now numbers) ≡ 8) ⌝ }
+    ensures { λ r. ⌜ LineRead (now (calls .entry)) from (now (numbers .exit)) r ⌝ }
+{
+    let piece = replay_words::piece_at(calls, from);
+    let end = piece.end;
+    Read {
+        row: row_of(&calls[from..end], numbers),
+        next: piece.next,
+    }
+}
+
 // The next line of the text.
 fn next_line(
     calls: &[u8],
@@ -152,21 +170,18 @@ fn next_line(
     ensures { λ r. ⌜ Went (now (calls .entry)) (now (slots .entry)) (now (counters .entry)) (now (items .entry)) (now (out .entry)) state
         (now (slots .exit)) (now (counters .exit)) (now (items .exit)) (now (out .exit)) r ⌝ }
 {
-    let from = state.from;
-    let piece = replay_words::piece_at(calls, from);
-    let end = piece.end;
     let mut numbers = [0u64; 8];
-    let row = row_of(&calls[from..end], &mut numbers);
+    let line = read_line(calls, state.from, &mut numbers);
     let here = State {
         slots: state.slots,
         counters: state.counters,
         items: state.items,
         hand: state.hand,
         number: state.number + 1,
-        from: piece.next,
+        from: line.next,
         at: state.at,
     };
-    step(row, &numbers, slots, counters, items, records, out, here)
+    step(line.row, &numbers, slots, counters, items, records, out, here)
 }
 
 // Lines until the buffer may not hold the next answer, or the text ends: at least one.
@@ -229,16 +244,16 @@ fn portions(
     };
     let mut written: u64 = 0;
     while state.from < calls.len() {
-        state = portion(calls, slots, counters, items, records, out, state);
-        let at = state.at;
-        written = hand_over(&out[..at], calls, written);
+        let full = portion(calls, slots, counters, items, records, out, state);
+        let end = full.at;
+        written = hand_over(&out[..end], calls, written);
         state = State {
-            slots: state.slots,
-            counters: state.counters,
-            items: state.items,
-            hand: state.hand,
-            number: state.number,
-            from: state.from,
+            slots: full.slots,
+            counters: full.counters,
+            items: full.items,
+            hand: full.hand,
+            number: full.number,
+            from: full.from,
             at: 0,
         };
     }
