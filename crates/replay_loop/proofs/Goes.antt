@@ -34,6 +34,10 @@ unfolding replayed reply-to
 line-read p e er ex =
     record { forward = p .goes-on; inside = p .inside; answers-first = λ n w. rw (p .first-line, er, ex, e, add-one) refl }
 
+pub goes-forward : {calls xs slots counters items out out′ : List ℕ} {from : ℕ} {line : Read} {y : Reply} {st r : State} → LineRead calls from xs line
+    → Stepped y st r slots counters items out out′ → st .from ≡ line .next → from < r .from
+goes-forward p s e = omega (arith, p .forward, s .same-from)
+
 module _ {calls slots counters items out slots′ counters′ items′ out′ : List ℕ} {st r : State} where
   pub goes-on : {line : Read} (xs : List ℕ) → Held slots counters items st → LineRead calls (st .from) xs line → st .at + longest ≤ length out
       → st .number ≤ st .from

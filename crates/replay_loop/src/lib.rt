@@ -169,6 +169,7 @@ fn next_line(
     requires { ⌜ (state .from < length (now calls)) × (state .number ≤ state .from) × (length (now records) ≡ 81920) ⌝ }
     ensures { λ r. ⌜ Went (now (calls .entry)) (now (slots .entry)) (now (counters .entry)) (now (items .entry)) (now (out .entry)) state
         (now (slots .exit)) (now (counters .exit)) (now (items .exit)) (now (out .exit)) r ⌝ }
+    ensures { λ r. ⌜ state .from < r .from ⌝ }
 {
     let mut numbers = [0u64; 8];
     let line = read_line(calls, state.from, &mut numbers);

@@ -1,5 +1,5 @@
 -- `replay_loop::next_line` meets its contract. Assumes nothing.
-use Rattle.replay_loop.proofs.Goes.{goes-on}
+use Rattle.replay_loop.proofs.Goes.{goes-on, goes-forward}
 use borrow.Author.Needs.{needs}
 use Rattle.replay_loop.proofs.next_line.Statement.{statement}
 use Rattle.replay_loop.proofs.next_line.Tie as tie
@@ -39,7 +39,7 @@ returns c =
     let line = c .before .before .before .before .before .before .before .before .before .before .before .before .before .before .before .before .before .before .before .read-line .ok in
     let stepped = c .before .before .before .before .before .before .before .before .before .before .step .ok in
     let asked = c .before .before .before .before .before .before .before .before .before .before .before .before .before .before .before .before .before .before .before .before .before .before .before .before .before .before .before .pre in
-    search (goes-on, line, stepped, asked)
+    (search (goes-on, asked), search (goes-forward, line, stepped))
 
 pub next-line-spec : {M : Type 1} → statement M
 next-line-spec =
