@@ -42,8 +42,8 @@ module _ {calls slots counters items out slots′ counters′ items′ out′ : 
   pub goes-on : {line : Read} (xs : List ℕ) → Held slots counters items st → LineRead calls (st .from) xs line → st .at + longest ≤ length out
       → st .number ≤ st .from
       → Stepped (meaning (line .row) (st .number + 1) xs (in-use slots counters items st))
-        (record { slots = st .slots; counters = st .counters; items = st .items; hand = st .hand; number = st .number + 1; from = line .next; at = st .at }) r
-        slots′ counters′ items′ out out′
+      (record { slots = st .slots; counters = st .counters; items = st .items; hand = st .hand; number = st .number + 1; from = line .next; at = st .at }) r
+      slots′ counters′ items′ out out′
       → Went calls slots counters items out st slots′ counters′ items′ out′ r
   goes-on {line} xs k p room few s =
       let y : Reply = meaning (line .row) (st .number + 1) xs (in-use slots counters items st) in
@@ -84,7 +84,15 @@ pub went-none : {calls slots counters items : List ℕ} {st : State} (out : List
     → Went calls slots counters items out st slots counters items out st
 went-none out k h few z =
     record {
-      held = k; inside = omega arith; counted = few; onward = omega arith; forward = omega arith; few = omega arith; long = refl; fits = omega arith; answered = refl;
+      held = k;
+      inside = omega arith;
+      counted = few;
+      onward = omega arith;
+      forward = omega arith;
+      few = omega arith;
+      long = refl;
+      fits = omega arith;
+      answered = refl;
     }
 
 -- a portion is full or the text is at its end: so at least one line was answered

@@ -8,7 +8,7 @@ use lib.Seq.{take-at, drop-at, length-take-le}
 use Rattle.replay_words.specs.Words.{lines}
 use Rattle.replay_turns.specs.World.{longest}
 use Rattle.replay_loop.specs.Replayed.{answers, replayed}
-use Rattle.replay_loop.specs.Standing.{coming, in-use, Held, Went}
+use Rattle.replay_loop.specs.Standing.{coming, in-use, Held, Next, Went}
 use Rattle.replay_loop.specs.declared.State.{State}
 
 pub record Handed (calls slots counters items records out : List ℕ) (st : State) (written : ℕ) : Type 0 where
@@ -49,7 +49,7 @@ module _ {calls slots counters items records out slots′ counters′ items′ o
       ∙ ap (λ (l : List ℕ). h .gone ++ l) (w .answered ∙ ap (λ (k : ℕ). take k out ++ coming calls slots counters items st) (h .empty))
       ∙ h .ahead
 
-  pub next-bytes : take (full .at) out′ ≡ take (length (take (full .at) out′)) (drop written (answers calls))
+  next-bytes : take (full .at) out′ ≡ take (length (take (full .at) out′)) (drop written (answers calls))
   next-bytes =
       let rest : drop written (answers calls) ≡ take (full .at) out′ ++ coming calls slots′ counters′ items′ full =
       ap (drop written) (sym split ∙ append-assoc (h .gone) (take (full .at) out′) (coming calls slots′ counters′ items′ full))
@@ -58,23 +58,36 @@ module _ {calls slots counters items records out slots′ counters′ items′ o
       (ap (take (length (take (full .at) out′))) rest
       ∙ take-at (take (full .at) out′) (coming calls slots′ counters′ items′ full) (length (take (full .at) out′)) refl)
 
-  pub next-few : length calls ≤ 2097152 → written + length (take (full .at) out′) ≤ 618475290624
+  next-few : length calls ≤ 2097152 → written + length (take (full .at) out′) ≤ 618475290624
   next-few l = omega (arith, length-take-le (full .at) out′ (w .fits), w .few, h .few, h .empty, w .counted, w .inside)
+
+  pub next-portion : length calls ≤ 2097152 → Next calls written (take (full .at) out′)
+  next-portion l = record { bytes = next-bytes; few = next-few l }
 
   -- it is handed over, and the next begins
   pub handed-more : {r : ℕ} {records′ : List ℕ} → length records′ ≡ length records → r ≡ written + length (take (full .at) out′)
       → Handed calls slots′ counters′ items′ records′ out′
-        (record {
-          slots = full .slots; counters = full .counters; items = full .items; hand = full .hand; number = full .number; from = full .from; at = 0;
-        }) r
+      (record {
+        slots = full .slots;
+        counters = full .counters;
+        items = full .items;
+        hand = full .hand;
+        number = full .number;
+        from = full .from;
+        at = 0;
+      }) r
   handed-more b e =
       record {
         gone = h .gone ++ take (full .at) out′;
         count = omega (arith, e, h .count, length-append (h .gone) (take (full .at) out′));
         ahead = split;
         held = record {
-          all-slots = w .held .all-slots; all-counters = w .held .all-counters; all-items = w .held .all-items; slots-in = w .held .slots-in;
-          counters-in = w .held .counters-in; items-in = w .held .items-in;
+          all-slots = w .held .all-slots;
+          all-counters = w .held .all-counters;
+          all-items = w .held .all-items;
+          slots-in = w .held .slots-in;
+          counters-in = w .held .counters-in;
+          items-in = w .held .items-in;
         };
         empty = refl;
         inside = w .inside;

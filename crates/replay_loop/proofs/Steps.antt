@@ -82,8 +82,8 @@ pub on-table-stepped : {slots counters items ys cs zs out out′ : List ℕ} {st
     → length ys ≡ length (take (st .slots) slots) → length cs ≡ length (take (st .counters) counters) → length zs ≡ length (take (st .items) items)
     → Replied y (mem ys cs zs) (st .at) out out′ t
     → Stepped y st
-      (record { slots = st .slots; counters = st .counters; items = st .items; hand = t .hand; number = st .number; from = st .from; at = t .next })
-      (ys ++ drop (st .slots) slots) (cs ++ drop (st .counters) counters) (zs ++ drop (st .items) items) out out′
+    (record { slots = st .slots; counters = st .counters; items = st .items; hand = t .hand; number = st .number; from = st .from; at = t .next })
+    (ys ++ drop (st .slots) slots) (cs ++ drop (st .counters) counters) (zs ++ drop (st .items) items) out out′
 on-table-stepped {slots} {counters} {items} {ys} {cs} {zs} {out} {out′} {st} {t} y k es ev ei r =
     let hs : st .slots ≤ length slots = omega (arith, k .slots-in, k .all-slots) in
     let hv : st .counters ≤ length counters = omega (arith, k .counters-in, k .all-counters) in
@@ -108,8 +108,11 @@ module _ {slots counters items out out′ : List ℕ} {st r : State} (s v i : �
         near = q .near;
         world-is = rw (q .same-slots, q .same-counters, q .same-items, q .same-hand);
         held = record {
-          all-slots = k .all-slots; all-counters = k .all-counters; all-items = k .all-items;
-          slots-in = omega (arith, k .slots-in, q .same-slots); counters-in = omega (arith, k .counters-in, q .same-counters);
+          all-slots = k .all-slots;
+          all-counters = k .all-counters;
+          all-items = k .all-items;
+          slots-in = omega (arith, k .slots-in, q .same-slots);
+          counters-in = omega (arith, k .counters-in, q .same-counters);
           items-in = omega (arith, k .items-in, q .same-items);
         };
         same-number = q .same-number;
@@ -141,45 +144,45 @@ module _ {slots counters items : List ℕ} {st : State} (s v i : ℕ) (k : Held 
   fresh-refused {ys} {cs} {zs} {out} {out′} {r} {said} {n} e f q =
       bool
       (λ b. right-lengths four (mem (take s slots) (take v counters) (take i items)) ≡ b → said-starting said ≡ choose b started (refused 1)
-        → mem ys cs zs ≡ choose b (fresh-memory (shape-of four (mem (take s slots) (take v counters) (take i items)))) (mem (take s slots) (take v counters) (take i items))
-        → Stepped (starts s v i (in-use slots counters items st)) st r (ys ++ drop s slots) (cs ++ drop v counters) (zs ++ drop i items) out out′)
+      → mem ys cs zs ≡ choose b (fresh-memory (shape-of four (mem (take s slots) (take v counters) (take i items)))) (mem (take s slots) (take v counters) (take i items))
+      → Stepped (starts s v i (in-use slots counters items st)) st r (ys ++ drop s slots) (cs ++ drop v counters) (zs ++ drop i items) out out′)
       (right-lengths four (mem (take s slots) (take v counters) (take i items)))
       (λ _ g t l. let z : _≡_ {A = ℕ} 0 1 = ap (λ (a : Answer). length (paper a .values)) (sym (ap said-starting e) ∙ t) in absurd (omega arith))
       (λ _ g t l.
-        let a : ys ++ drop s slots ≡ slots = ap (λ (m : Mem). m .slots ++ drop s slots) l ∙ take-append-drop s slots in
-        let b : cs ++ drop v counters ≡ counters = ap (λ (m : Mem). m .counters ++ drop v counters) l ∙ take-append-drop v counters in
-        let c : zs ++ drop i items ≡ items = ap (λ (m : Mem). m .items ++ drop i items) l ∙ take-append-drop i items in
-        rw (a, b, c) (unchanged s v i k q (rw (held-is, ← lengths-are) g)))
+      let a : ys ++ drop s slots ≡ slots = ap (λ (m : Mem). m .slots ++ drop s slots) l ∙ take-append-drop s slots in
+      let b : cs ++ drop v counters ≡ counters = ap (λ (m : Mem). m .counters ++ drop v counters) l ∙ take-append-drop v counters in
+      let c : zs ++ drop i items ≡ items = ap (λ (m : Mem). m .items ++ drop i items) l ∙ take-append-drop i items in
+      rw (a, b, c) (unchanged s v i k q (rw (held-is, ← lengths-are) g)))
       refl (f .told) (f .left)
 
   pub fresh-made : {ys cs zs out out′ : List ℕ} {next : ℕ} {said : Starting} → said ≡ starting.Started
       → FreshAs four (mem (take s slots) (take v counters) (take i items)) (mem ys cs zs) (said-starting said) → Put (line (bytes "fresh")) (st .at) out out′ next
       → length ys ≡ length (take s slots) → length cs ≡ length (take v counters) → length zs ≡ length (take i items)
       → Stepped (starts s v i (in-use slots counters items st)) st
-        (record { slots = s; counters = v; items = i; hand = 0; number = st .number; from = st .from; at = next })
-        (ys ++ drop s slots) (cs ++ drop v counters) (zs ++ drop i items) out out′
+      (record { slots = s; counters = v; items = i; hand = 0; number = st .number; from = st .from; at = next })
+      (ys ++ drop s slots) (cs ++ drop v counters) (zs ++ drop i items) out out′
   unfolding starts
   fresh-made {ys} {cs} {zs} {out} {out′} {next} {said} e f p es ev ei =
       bool
       (λ b. right-lengths four (mem (take s slots) (take v counters) (take i items)) ≡ b → said-starting said ≡ choose b started (refused 1)
-        → mem ys cs zs ≡ choose b (fresh-memory (shape-of four (mem (take s slots) (take v counters) (take i items)))) (mem (take s slots) (take v counters) (take i items))
-        → Stepped (starts s v i (in-use slots counters items st)) st
-        (record { slots = s; counters = v; items = i; hand = 0; number = st .number; from = st .from; at = next })
-        (ys ++ drop s slots) (cs ++ drop v counters) (zs ++ drop i items) out out′)
+      → mem ys cs zs ≡ choose b (fresh-memory (shape-of four (mem (take s slots) (take v counters) (take i items)))) (mem (take s slots) (take v counters) (take i items))
+      → Stepped (starts s v i (in-use slots counters items st)) st
+      (record { slots = s; counters = v; items = i; hand = 0; number = st .number; from = st .from; at = next })
+      (ys ++ drop s slots) (cs ++ drop v counters) (zs ++ drop i items) out out′)
       (right-lengths four (mem (take s slots) (take v counters) (take i items)))
       (λ _ g t l.
-        let good : good-lengths four s v i ≡ true = sym lengths-are ∙ g in
-        let sized : fresh-memory (shape-of four (mem (take s slots) (take v counters) (take i items))) ≡ fresh-memory (shape four (s / 4) v (i / 4)) =
-        rw (length-take-le s slots hs, length-take-le v counters hv, length-take-le i items hi) in
-        rw (held-is, good)
-        (record {
-          put = p;
-          near = omega (arith, p .next);
-          world-is = ap (λ (m : Mem). world m 0) (back-mem slots counters items ys cs zs s v i hs hv hi es ev ei ∙ l ∙ sized);
-          held = back-held slots counters items ys cs zs s v i hs hv hi es ev ei k refl refl refl;
-          same-number = refl;
-          same-from = refl;
-        }))
+      let good : good-lengths four s v i ≡ true = sym lengths-are ∙ g in
+      let sized : fresh-memory (shape-of four (mem (take s slots) (take v counters) (take i items))) ≡ fresh-memory (shape four (s / 4) v (i / 4)) =
+      rw (length-take-le s slots hs, length-take-le v counters hv, length-take-le i items hi) in
+      rw (held-is, good)
+      (record {
+        put = p;
+        near = omega (arith, p .next);
+        world-is = ap (λ (m : Mem). world m 0) (back-mem slots counters items ys cs zs s v i hs hv hi es ev ei ∙ l ∙ sized);
+        held = back-held slots counters items ys cs zs s v i hs hv hi es ev ei k refl refl refl;
+        same-number = refl;
+        same-from = refl;
+      }))
       (λ _ g t l. let z : _≡_ {A = ℕ} 1 0 = ap (λ (a : Answer). length (paper a .values)) (sym (ap said-starting e) ∙ t) in absurd (omega arith))
       refl (f .told) (f .left)
 

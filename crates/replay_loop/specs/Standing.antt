@@ -10,7 +10,7 @@ use Rattle.replay_words.specs.Words.{lines}
 use Rattle.replay_answers.specs.Text.{text}
 use Rattle.replay_turns.specs.World.{World, Reply, world, longest}
 use Rattle.replay_turns.specs.Meaning.{meaning}
-use Rattle.replay_loop.specs.Replayed.{replayed}
+use Rattle.replay_loop.specs.Replayed.{answers, replayed}
 use Rattle.replay_loop.specs.declared.Read.{Read}
 use Rattle.replay_loop.specs.declared.State.{State}
 
@@ -69,3 +69,8 @@ pub record Went (calls slots counters items out : List ℕ) (s : State) (slots�
   pub long : length out′ ≡ length out
   pub fits : s′ .at ≤ length out′
   pub answered : take (s′ .at) out′ ++ coming calls slots′ counters′ items′ s′ ≡ take (s .at) out ++ coming calls slots counters items s
+
+-- a portion is the next bytes of the answers, behind those that have gone out; a text of two mebibytes has no more than that
+pub record Next (calls : List ℕ) (written : ℕ) (portion : List ℕ) : Type 0 where
+  pub bytes : portion ≡ take (length portion) (drop written (answers calls))
+  pub few : written + length portion ≤ 618475290624

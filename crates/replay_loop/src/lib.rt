@@ -7,7 +7,7 @@ ghost use Rattle.replay_turns.specs.Meaning.{meaning, starts};
 ghost use Rattle.replay_turns.specs.World.{longest};
 ghost use Rattle.replay_loop.specs.Replayed.{answers, language};
 ghost use Rattle.replay_lines.specs.Line.{said, padded};
-ghost use Rattle.replay_loop.specs.Standing.{in-use, Held, LineRead, Stepped, Refused, Went};
+ghost use Rattle.replay_loop.specs.Standing.{in-use, Held, LineRead, Next, Stepped, Refused, Went};
 use libc::STDOUT_FILENO;
 use model::Starting;
 
@@ -98,7 +98,16 @@ fn step(
         (now (slots .exit)) (now (counters .exit)) (now (items .exit)) (now (out .entry)) (now (out .exit)) ⌝ }
 {
     if row == 1 {
-        return start(numbers[0] as usize, numbers[1] as usize, numbers[2] as usize, slots, counters, items, out, state);
+        return start(
+            numbers[0] as usize,
+            numbers[1] as usize,
+            numbers[2] as usize,
+            slots,
+            counters,
+            items,
+            out,
+            state,
+        );
     }
     let s = state.slots;
     let v = state.counters;
@@ -182,7 +191,16 @@ fn next_line(
         from: line.next,
         at: state.at,
     };
-    step(line.row, &numbers, slots, counters, items, records, out, here)
+    step(
+        line.row,
+        &numbers,
+        slots,
+        counters,
+        items,
+        records,
+        out,
+        here,
+    )
 }
 
 // Lines until the buffer may not hold the next answer, or the text ends: at least one.
@@ -213,8 +231,7 @@ fn portion(
 
 // The next bytes of the answers go out; how many have gone out by then.
 fn hand_over(portion: &[u8], calls: &[u8], written: u64) -> u64
-    requires { ⌜ now portion ≡ take (length (now portion)) (drop written (answers (now calls))) ⌝ }
-    requires { ⌜ written + length (now portion) ≤ 618475290624 ⌝ }
+    requires { ⌜ Next (now calls) written (now portion) ⌝ }
     ensures { λ r. ⌜ r ≡ written + length (now (portion .entry)) ⌝ }
 {
     io::write_all(STDOUT_FILENO, portion);

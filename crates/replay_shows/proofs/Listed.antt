@@ -28,7 +28,7 @@ listed-fits : (l : List ℕ) (M size n : ℕ) (bs : List ℕ) → listed n bs �
 unfolding listing
 listed-fits l M size n bs =
     bool (λ b. ltb size (20 * live-count l (range 0 M)) ≡ b → listed n bs ≡ choose b (refused 9) (listed (live-count l (range 0 M)) (records l (range 0 M)))
-      → 20 * n ≤ size) (ltb size (20 * live-count l (range 0 M)))
+    → 20 * n ≤ size) (ltb size (20 * live-count l (range 0 M)))
     (λ _ t e. let z : _≡_ {A = ℕ} 0 9 = ap (λ (a : Answer). paper a .number) e in absurd (omega arith))
     (λ _ f e. let q : n ≡ live-count l (range 0 M) = ap (λ (a : Answer). value a 1) e in omega (arith, ltb-false size (20 * live-count l (range 0 M)) f)) refl
 

@@ -36,7 +36,14 @@ pub fn poke64(run: &mut [u64], at: u64, word: u64) -> bool
 }
 
 // The list into the bytes lent for it, and its lines.
-pub fn put_list(slots: &[u32], counters: &[u32], items: &[u64], records: &mut [u8], out: &mut [u8], at: usize) -> usize
+pub fn put_list(
+    slots: &[u32],
+    counters: &[u32],
+    items: &[u64],
+    records: &mut [u8],
+    out: &mut [u8],
+    at: usize,
+) -> usize
     requires { ⌜ at + 384 + 3 * length (now records) ≤ length (now out) ⌝ }
     ensures { λ r. ⌜ Put (text (lent-call four (mem (now (slots .entry)) (now (counters .entry)) (now (items .entry))) (write-list (length (now (records .entry)))) .answer))
         at (now (out .entry)) (now (out .exit)) r × (r ≤ at + 384 + 3 * length (now (records .entry))) ⌝ }

@@ -121,7 +121,10 @@ module _ {m : Mem} {at : ℕ} {before after : List ℕ} {row : ℕ} (h n : ℕ) 
     as-poke-slots e k p l =
         rw e
         (record {
-          put = rw (← k .told) p; near = omega arith; left = ap (λ (s : List ℕ). mem s (m .counters) (m .items)) (k .left); hand = refl;
+          put = rw (← k .told) p;
+          near = omega arith;
+          left = ap (λ (s : List ℕ). mem s (m .counters) (m .items)) (k .left);
+          hand = refl;
         })
 
     pub as-poke-counters : {b : Bool} {run : List ℕ} → row ≡ 15 → Poked 4294967295 (getD xs 0 0) (getD xs 1 0) (m .counters) run b
@@ -130,7 +133,10 @@ module _ {m : Mem} {at : ℕ} {before after : List ℕ} {row : ℕ} (h n : ℕ) 
     as-poke-counters e k p l =
         rw e
         (record {
-          put = rw (← k .told) p; near = omega arith; left = ap (λ (s : List ℕ). mem (m .slots) s (m .items)) (k .left); hand = refl;
+          put = rw (← k .told) p;
+          near = omega arith;
+          left = ap (λ (s : List ℕ). mem (m .slots) s (m .items)) (k .left);
+          hand = refl;
         })
 
     pub as-poke-items : {b : Bool} {run : List ℕ} → row ≡ 16 → Poked 18446744073709551615 (getD xs 0 0) (getD xs 1 0) (m .items) run b
@@ -139,7 +145,10 @@ module _ {m : Mem} {at : ℕ} {before after : List ℕ} {row : ℕ} (h n : ℕ) 
     as-poke-items e k p l =
         rw e
         (record {
-          put = rw (← k .told) p; near = omega arith; left = ap (λ (s : List ℕ). mem (m .slots) (m .counters) s) (k .left); hand = refl;
+          put = rw (← k .told) p;
+          near = omega arith;
+          left = ap (λ (s : List ℕ). mem (m .slots) (m .counters) s) (k .left);
+          hand = refl;
         })
 
     pub as-dump : row ≡ 17 → Ample m at before → Put (dump m) at before after next

@@ -44,7 +44,14 @@ fn whole_call(
     let c = numbers[2];
     match row {
         2 => Turn {
-            next: replay_calls::answer_set(slots, counters, items, granted(a, b, c, false), out, at),
+            next: replay_calls::answer_set(
+                slots,
+                counters,
+                items,
+                granted(a, b, c, false),
+                out,
+                at,
+            ),
             hand,
         },
         3 => Turn {
@@ -90,11 +97,27 @@ fn cut_call(
     let c = numbers[3];
     match row {
         8 => Turn {
-            next: replay_calls::answer_set_cut(slots, counters, items, granted(a, b, c, false), k, out, at),
+            next: replay_calls::answer_set_cut(
+                slots,
+                counters,
+                items,
+                granted(a, b, c, false),
+                k,
+                out,
+                at,
+            ),
             hand,
         },
         9 => Turn {
-            next: replay_calls::answer_set_cut(slots, counters, items, granted(a, b, c, true), k, out, at),
+            next: replay_calls::answer_set_cut(
+                slots,
+                counters,
+                items,
+                granted(a, b, c, true),
+                k,
+                out,
+                at,
+            ),
             hand,
         },
         10 => Turn {
@@ -219,5 +242,16 @@ pub fn on_table(
     if row <= 11 {
         return cut_call(row, number, numbers, slots, counters, items, out, at, hand);
     }
-    beside_the_calls(row, number, numbers, slots, counters, items, records, out, at, hand)
+    beside_the_calls(
+        row,
+        number,
+        numbers,
+        slots,
+        counters,
+        items,
+        records,
+        out,
+        at,
+        hand,
+    )
 }
