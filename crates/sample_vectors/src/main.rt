@@ -69,6 +69,13 @@ fn say_byte(b: u8) {
     say(&two);
 }
 
+// The digits of a record, and the line's end.
+fn say_record(record: &[u8; 20]) {
+    let mut line = [0u8; 384];
+    let n = replay_print::put_records(&mut line, 0, 1, record);
+    say_first(&line, n);
+}
+
 // FNV-1a over some bytes, by the step that the hash of an animal is made of.
 fn fnv_of(text: &[u8]) -> u32
     ensures { λ r. ⌜ r ≡ fnv 2166136261 (now (text .entry)) ⌝ }
@@ -127,18 +134,21 @@ fn one_record() {
     setting::set(&mut slots, &mut counters, &mut items, grant());
     listing::list(&slots, &counters, &items, &mut record);
     say(b"list of animal 1, permission 5, stamp 2: ");
-    let mut line = [0u8; 384];
-    let n = replay_print::put_records(&mut line, 0, 1, &record);
-    say_first(&line, n);
+    say_record(&record);
 }
 
-// The published vectors.
-fn vectors() {
-    say_fnv(b"");
-    say_fnv(b"a");
-    say_fnv(b"b");
-    say_fnv(b"foo");
-    say_fnv(b"foobar");
+fn say_read(slots: &[u32; 8192], counters: &[u32; 1024], items: &[u64; 16384]) {
+    say(b"4096 places, read 1: ");
+    say_reading(reading::read(slots, counters, items, 1, 720, 2));
+}
+
+fn say_evict(slots: &mut [u32; 8192], counters: &mut [u32; 1024], items: &mut [u64; 16384]) {
+    say(b"4096 places, evict with hand 1: ");
+    let hand = Hand { at: 1 };
+    let turned = evicting::evict(slots, counters, items, hand);
+    let back = turned.hand;
+    let said = turned.answer;
+    say_evicting(said, back.at as u64);
 }
 
 // The largest table with one animal, at place 0: the hand goes around from place 1, clears it, and takes it at the 8,192nd look.
@@ -150,21 +160,18 @@ fn largest() {
     say_starting(starting::fresh(&mut slots, &mut counters, &mut items));
     say(b"4096 places, set 1: ");
     say_setting(setting::set(&mut slots, &mut counters, &mut items, grant()));
-    say(b"4096 places, read 1: ");
-    say_reading(reading::read(&slots, &counters, &items, 1, 720, 2));
-    say(b"4096 places, evict with hand 1: ");
-    let hand = Hand { at: 1 };
-    let turned = evicting::evict(&mut slots, &mut counters, &mut items, hand);
-    let back = turned.hand;
-    let said = turned.answer;
-    say_evicting(said, back.at as u64);
-    say(b"4096 places, read 1: ");
-    say_reading(reading::read(&slots, &counters, &items, 1, 720, 2));
+    say_read(&slots, &counters, &items);
+    say_evict(&mut slots, &mut counters, &mut items);
+    say_read(&slots, &counters, &items);
 }
 
 fn main() {
     lengths();
     one_record();
-    vectors();
+    say_fnv(b"");
+    say_fnv(b"a");
+    say_fnv(b"b");
+    say_fnv(b"foo");
+    say_fnv(b"foobar");
     largest();
 }
