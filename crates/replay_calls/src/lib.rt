@@ -8,6 +8,7 @@ ghost use Rattle.model.specs.Calling.{read, serve, set-animal, delete, evict};
 ghost use Rattle.replay_calls.specs.Told.{Told, Whole, Cut, answer-of};
 use model::Grant;
 use places::Hand;
+use replay_rows::Turn;
 
 // Read, with the line of its answer.
 pub fn answer_read(
@@ -113,12 +114,6 @@ pub fn answer_delete_cut(
 {
     let said = deleting::delete_cut(slots, counters, items, animal, k);
     replay_answers::put_deleting(out, at, said)
-}
-
-// The position behind an evict's line, and the hand that came back.
-pub struct Turn {
-    pub next: usize,
-    pub hand: usize,
 }
 
 // Evict.

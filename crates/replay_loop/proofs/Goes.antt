@@ -1,20 +1,20 @@
 -- Line by line: what is in the buffer and what is still to come stay the same. Assumes nothing.
-use Prim.Native.Nat.{ℕ, suc, _+_, _*_, _-_, _≤_, _<_}
+use Prim.Native.Nat.{ℕ, _+_, _-_, _≤_, _<_}
 use native.Mathlib.Omega.{arith}
 use native.Mathlib.Numerals.{add-one}
-use mathlib.Core.Path.{_≡_, refl, sym, ap, ap₂, subst, _∙_}
-use mathlib.Core.List.{List, [], _∷_, _++_, append-assoc, append-nil}
-use lib.ListN.{length, take, drop, drop-of-length-le, length-append}
-use lib.Seq.{take-at, drop-at, length-take-le}
+use mathlib.Core.Path.{_≡_, refl, sym, ap, ap₂, _∙_}
+use mathlib.Core.List.{List, _++_, append-assoc}
+use lib.ListN.{length, take, drop, length-append}
+use lib.Seq.{take-at, length-take-le}
 use Rattle.buffer.specs.Put.{Put}
 use Rattle.buffer.proofs.Putting.{put-is, put-length}
 use Rattle.replay_words.specs.Words.{lines}
 use Rattle.replay_words.specs.Cursor.{PieceAt, part}
 use Rattle.replay_words.specs.declared.Piece.{Piece}
-use Rattle.replay_lines.specs.Line.{Said, said, padded}
-use Rattle.replay_turns.specs.World.{World, Reply, longest}
-use Rattle.replay_turns.specs.Meaning.{meaning}
-use Rattle.replay_loop.specs.Replayed.{answers, language, replayed, reply-to}
+use Rattle.replay_lines.specs.Line.{said, padded}
+use Rattle.replay_rows.specs.World.{Reply, longest}
+use Rattle.replay_rows.specs.Meaning.{meaning}
+use Rattle.replay_loop.specs.Replayed.{language, replayed, reply-to}
 use Rattle.replay_loop.specs.Standing.{in-use, Held, LineRead, Stepped, Went}
 use Rattle.replay_loop.specs.declared.Read.{Read}
 use Rattle.replay_loop.specs.declared.State.{State}

@@ -1,12 +1,12 @@
 -- Portion by portion: what has gone out and what is still to come are the answers. Assumes nothing.
-use Prim.Native.Nat.{ℕ, _+_, _*_, _≤_, _<_}
+use Prim.Native.Nat.{ℕ, _+_, _*_, _≤_}
 use native.Mathlib.Omega.{arith}
 use mathlib.Core.Path.{_≡_, refl, sym, ap, _∙_}
-use mathlib.Core.List.{List, [], _∷_, _++_, append-assoc, append-nil}
+use mathlib.Core.List.{List, [], _++_, append-assoc, append-nil}
 use lib.ListN.{length, take, drop, drop-of-length-le, length-append}
 use lib.Seq.{take-at, drop-at, length-take-le}
 use Rattle.replay_words.specs.Words.{lines}
-use Rattle.replay_turns.specs.World.{longest}
+use Rattle.replay_rows.specs.World.{longest}
 use Rattle.replay_loop.specs.Replayed.{answers, replayed}
 use Rattle.replay_loop.specs.Standing.{coming, in-use, Held, Next, Went}
 use Rattle.replay_loop.specs.declared.State.{State}

@@ -1,12 +1,11 @@
 -- One line, on the fronts of the program's runs. Assumes nothing.
 use Prim.Native.Nat.{ℕ, _+_, _/_, _≤_, _<_}
 use native.Mathlib.Omega.{arith}
-use mathlib.Core.Path.{_≡_, refl, sym, ap, ap₂, subst, _∙_}
-use mathlib.Core.Bool.{Bool, true, false, _&&_}
+use mathlib.Core.Path.{_≡_, refl, sym, ap, ap₂, _∙_}
+use mathlib.Core.Bool.{true, false, _&&_}
 use mathlib.Core.List.{List, _++_}
 use lib.ListN.{length, getD, take, drop, length-append, length-drop, take-append-drop}
 use lib.Seq.{length-take-le, take-at}
-use lib.Dec.{leb}
 use borrow.Author.Tests.{le-leb, lt-leb}
 use Rattle.model.specs.Choice.{choose}
 use Rattle.model.specs.Memory.{Mem, mem}
@@ -20,10 +19,9 @@ use Rattle.model.proofs.ListLaws.{bool}
 use Rattle.buffer.specs.Put.{Put}
 use Rattle.replay_print.specs.Text.{bytes}
 use Rattle.replay_print.specs.Print.{line}
-use Rattle.replay_answers.specs.Text.{text}
-use Rattle.replay_calls.specs.declared.Turn.{Turn}
-use Rattle.replay_turns.specs.World.{Ample, World, Reply, Replied, world, longest}
-use Rattle.replay_turns.specs.Meaning.{holds, meaning, starts}
+use Rattle.replay_rows.specs.declared.Turn.{Turn}
+use Rattle.replay_rows.specs.World.{Ample, World, Reply, Replied, world, longest}
+use Rattle.replay_rows.specs.Meaning.{holds, meaning, starts}
 use Rattle.replay_loop.specs.Standing.{in-use, Held, Stepped, Refused}
 use Rattle.replay_loop.specs.declared.State.{State}
 

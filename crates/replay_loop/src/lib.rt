@@ -1,10 +1,9 @@
 // Replays the lines of a text, one after the other, and hands over their answers in portions.
 ghost use mathlib.Core.Path.{_≡_};
-ghost use mathlib.Core.List.{_++_};
-ghost use Prim.Native.Nat.{_+_, _*_, _<_, _≤_};
-ghost use lib.ListN.{length, take, drop};
-ghost use Rattle.replay_turns.specs.Meaning.{meaning, starts};
-ghost use Rattle.replay_turns.specs.World.{longest};
+ghost use Prim.Native.Nat.{_+_, _<_, _≤_};
+ghost use lib.ListN.{length};
+ghost use Rattle.replay_rows.specs.Meaning.{meaning, starts};
+ghost use Rattle.replay_rows.specs.World.{longest};
 ghost use Rattle.replay_loop.specs.Replayed.{answers, language};
 ghost use Rattle.replay_lines.specs.Line.{said, padded};
 ghost use Rattle.replay_loop.specs.Standing.{in-use, Held, LineRead, Next, Stepped, Refused, Went};

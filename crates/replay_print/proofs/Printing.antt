@@ -1,6 +1,6 @@
 -- Laws on what is printed. Assumes nothing.
 use Prim.Native.Nat.{ℕ, zero, suc, _+_, _*_, _/_, _%_, _-_, _^_, _≤_, _<_}
-use native.Mathlib.Nat.{add-zero, pow-suc}
+use native.Mathlib.Nat.{pow-suc}
 use native.Mathlib.Numerals.{add-one}
 use native.Mathlib.Omega.{arith}
 use native.Mathlib.Decide.{ℕ-discrete}
@@ -10,7 +10,7 @@ use mathlib.Core.Bool.{true, false}
 use mathlib.Core.Option.{some}
 use mathlib.Core.List.{List, [], _∷_, _++_, append-assoc, append-nil}
 use lib.ListN.{length, getD, set, take, drop, drop-of-length-le, length-append, length-drop, length-set, length-take}
-use lib.Seq.{drop-cons, drop-set-lt, getD-set-same, length-sets, sets, sets-eq, take-all}
+use lib.Seq.{drop-cons, drop-set-lt, getD-set-same, sets, take-all}
 use borrow.Author.Tests.{le-leb}
 use Rattle.model.specs.Choice.{choose}
 use Rattle.buffer.specs.Put.{Put}

@@ -1,2 +1,3 @@
 pub mod Poke
 pub mod Listed
+pub mod Beside

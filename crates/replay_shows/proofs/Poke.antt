@@ -7,10 +7,8 @@ use mir.Val.{Fits}
 use mir.Syntax.{w64}
 use mathlib.Core.List.{List}
 use lib.ListN.{length, set}
-use lib.Dec.{leb, ltb}
 use borrow.Author.Tests.{lt-ltb, le-ltb, le-leb, lt-leb}
-use Rattle.model.specs.Choice.{choose}
-use Rattle.replay_shows.specs.Poke.{Poked}
+use Rattle.replay_rows.specs.Poke.{Poked}
 
 module _ {top at word : ℕ} {run : List ℕ} where
   pub poke-outside : length run ≤ at → Poked top at word run run false

@@ -1,4 +1,5 @@
-// What the replay program does beside the table's calls: it pokes words, and prints the list.
+// The lines of a replay beside the table's calls: the hand, the list, a poke, a dump, and what is not understood.
+ghost use mathlib.Core.Path.{_≡_};
 ghost use Prim.Native.Nat.{_+_, _*_, _≤_};
 ghost use lib.ListN.{length};
 ghost use Rattle.model.specs.Memory.{mem};
@@ -7,10 +8,13 @@ ghost use Rattle.model.specs.Calling.{write-list};
 ghost use Rattle.model.specs.Lent.{lent-call};
 ghost use Rattle.buffer.specs.Put.{Put};
 ghost use Rattle.replay_answers.specs.Text.{text};
-ghost use Rattle.replay_shows.specs.Poke.{Poked};
+ghost use Rattle.replay_rows.specs.World.{Ample, Replied, longest, world};
+ghost use Rattle.replay_rows.specs.Poke.{Poked};
+ghost use Rattle.replay_rows.specs.Meaning.{lists, meaning};
+use replay_rows::Turn;
 
 // A word of a run, if there is one and the new word fits.
-pub fn poke32(run: &mut [u32], at: u64, word: u64) -> bool
+fn poke32(run: &mut [u32], at: u64, word: u64) -> bool
     ensures { λ r. ⌜ Poked 4294967295 at word (now (run .entry)) (now (run .exit)) r ⌝ }
 {
     let i = at as usize;
@@ -24,7 +28,7 @@ pub fn poke32(run: &mut [u32], at: u64, word: u64) -> bool
     true
 }
 
-pub fn poke64(run: &mut [u64], at: u64, word: u64) -> bool
+fn poke64(run: &mut [u64], at: u64, word: u64) -> bool
     ensures { λ r. ⌜ Poked 18446744073709551615 at word (now (run .entry)) (now (run .exit)) r ⌝ }
 {
     let i = at as usize;
@@ -36,7 +40,7 @@ pub fn poke64(run: &mut [u64], at: u64, word: u64) -> bool
 }
 
 // The list into the bytes lent for it, and its lines.
-pub fn put_list(
+fn put_list(
     slots: &[u32],
     counters: &[u32],
     items: &[u64],
@@ -50,4 +54,91 @@ pub fn put_list(
 {
     let said = listing::list(slots, counters, items, records);
     replay_answers::put_listing(out, at, said, records)
+}
+
+// The list into the bytes lent for it, if there are so many.
+fn list_line(
+    number: u64,
+    size: u64,
+    slots: &[u32],
+    counters: &[u32],
+    items: &[u64],
+    records: &mut [u8],
+    out: &mut [u8],
+    at: usize,
+    hand: usize,
+) -> Turn
+    requires { ⌜ (length (now records) ≡ 81920) × (at + longest ≤ length (now out)) ⌝ }
+    ensures { λ r. ⌜ Replied (lists number size (world (mem (now (slots .entry)) (now (counters .entry)) (now (items .entry))) hand))
+        (mem (now (slots .entry)) (now (counters .entry)) (now (items .entry))) at (now (out .entry)) (now (out .exit)) r ⌝ }
+{
+    if 81920 < size {
+        return Turn {
+            next: replay_answers::put_not_understood(out, at, number),
+            hand,
+        };
+    }
+    let end = size as usize;
+    Turn {
+        next: put_list(slots, counters, items, &mut records[..end], out, at),
+        hand,
+    }
+}
+
+// The rows from 12 on: the hand, a list, a poke, a dump, and a line that follows no row.
+pub fn beside_the_calls(
+    row: usize,
+    number: u64,
+    numbers: &[u64],
+    slots: &mut [u32],
+    counters: &mut [u32],
+    items: &mut [u64],
+    records: &mut [u8],
+    out: &mut [u8],
+    at: usize,
+    hand: usize,
+) -> Turn
+    requires { ⌜ (12 ≤ row) × (length (now numbers) ≡ 8) × (length (now records) ≡ 81920) ⌝ }
+    requires { ⌜ Ample (mem (now slots) (now counters) (now items)) at (now out) ⌝ }
+    ensures { λ r. ⌜ Replied (meaning row number (now (numbers .entry)) (world (mem (now (slots .entry)) (now (counters .entry)) (now (items .entry))) hand))
+        (mem (now (slots .exit)) (now (counters .exit)) (now (items .exit))) at (now (out .entry)) (now (out .exit)) r ⌝ }
+{
+    let a = numbers[0];
+    let b = numbers[1];
+    match row {
+        12 => Turn {
+            next: replay_print::put_line(out, at, b"hand"),
+            hand: a as usize,
+        },
+        13 => list_line(number, a, slots, counters, items, records, out, at, hand),
+        14 => {
+            let poked = poke32(slots, a, b);
+            Turn {
+                next: replay_answers::put_poked(out, at, poked),
+                hand,
+            }
+        }
+        15 => {
+            let poked = poke32(counters, a, b);
+            Turn {
+                next: replay_answers::put_poked(out, at, poked),
+                hand,
+            }
+        }
+        16 => {
+            let poked = poke64(items, a, b);
+            Turn {
+                next: replay_answers::put_poked(out, at, poked),
+                hand,
+            }
+        }
+        17 => Turn {
+            next: replay_answers::put_dump(out, at, slots, counters, items),
+            hand,
+        },
+        _ => Turn {
+            next: replay_answers::put_not_understood(out, at, number),
+            hand,
+        },
+    }
 }

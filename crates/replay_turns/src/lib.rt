@@ -1,14 +1,14 @@
 // One line of a replay on the table there is: the row it follows says which call it makes.
 ghost use mathlib.Core.Path.{_≡_};
 ghost use mathlib.Core.Logic.{_≢_};
-ghost use Prim.Native.Nat.{_+_, _≤_};
+ghost use Prim.Native.Nat.{_≤_};
 ghost use lib.ListN.{length};
 ghost use Rattle.model.specs.Memory.{mem};
 ghost use Rattle.model.specs.Calling.{grant};
-ghost use Rattle.replay_turns.specs.World.{Ample, Replied, longest, world};
-ghost use Rattle.replay_turns.specs.Meaning.{lists, meaning, permission};
+ghost use Rattle.replay_rows.specs.World.{Ample, Replied, world};
+ghost use Rattle.replay_rows.specs.Meaning.{meaning, permission};
 use model::Grant;
-use replay_calls::Turn;
+use replay_rows::Turn;
 
 // What a set line grants.
 fn granted(animal: u64, p: u64, minute: u64, standing: bool) -> Grant
@@ -128,93 +128,6 @@ fn cut_call(
     }
 }
 
-// The list into the bytes lent for it, if there are so many.
-fn list_line(
-    number: u64,
-    size: u64,
-    slots: &[u32],
-    counters: &[u32],
-    items: &[u64],
-    records: &mut [u8],
-    out: &mut [u8],
-    at: usize,
-    hand: usize,
-) -> Turn
-    requires { ⌜ (length (now records) ≡ 81920) × (at + longest ≤ length (now out)) ⌝ }
-    ensures { λ r. ⌜ Replied (lists number size (world (mem (now (slots .entry)) (now (counters .entry)) (now (items .entry))) hand))
-        (mem (now (slots .entry)) (now (counters .entry)) (now (items .entry))) at (now (out .entry)) (now (out .exit)) r ⌝ }
-{
-    if 81920 < size {
-        return Turn {
-            next: replay_answers::put_not_understood(out, at, number),
-            hand,
-        };
-    }
-    let end = size as usize;
-    Turn {
-        next: replay_shows::put_list(slots, counters, items, &mut records[..end], out, at),
-        hand,
-    }
-}
-
-// The rows from 12 on: the hand, a list, a poke, a dump, and a line that follows no row.
-fn beside_the_calls(
-    row: usize,
-    number: u64,
-    numbers: &[u64],
-    slots: &mut [u32],
-    counters: &mut [u32],
-    items: &mut [u64],
-    records: &mut [u8],
-    out: &mut [u8],
-    at: usize,
-    hand: usize,
-) -> Turn
-    requires { ⌜ (12 ≤ row) × (length (now numbers) ≡ 8) × (length (now records) ≡ 81920) ⌝ }
-    requires { ⌜ Ample (mem (now slots) (now counters) (now items)) at (now out) ⌝ }
-    ensures { λ r. ⌜ Replied (meaning row number (now (numbers .entry)) (world (mem (now (slots .entry)) (now (counters .entry)) (now (items .entry))) hand))
-        (mem (now (slots .exit)) (now (counters .exit)) (now (items .exit))) at (now (out .entry)) (now (out .exit)) r ⌝ }
-{
-    let a = numbers[0];
-    let b = numbers[1];
-    match row {
-        12 => Turn {
-            next: replay_print::put_line(out, at, b"hand"),
-            hand: a as usize,
-        },
-        13 => list_line(number, a, slots, counters, items, records, out, at, hand),
-        14 => {
-            let poked = replay_shows::poke32(slots, a, b);
-            Turn {
-                next: replay_answers::put_poked(out, at, poked),
-                hand,
-            }
-        }
-        15 => {
-            let poked = replay_shows::poke32(counters, a, b);
-            Turn {
-                next: replay_answers::put_poked(out, at, poked),
-                hand,
-            }
-        }
-        16 => {
-            let poked = replay_shows::poke64(items, a, b);
-            Turn {
-                next: replay_answers::put_poked(out, at, poked),
-                hand,
-            }
-        }
-        17 => Turn {
-            next: replay_answers::put_dump(out, at, slots, counters, items),
-            hand,
-        },
-        _ => Turn {
-            next: replay_answers::put_not_understood(out, at, number),
-            hand,
-        },
-    }
-}
-
 // A line that makes no fresh table: its call on the table there is, its answer, and the hand afterwards.
 pub fn on_table(
     row: usize,
@@ -242,7 +155,7 @@ pub fn on_table(
     if row <= 11 {
         return cut_call(row, number, numbers, slots, counters, items, out, at, hand);
     }
-    beside_the_calls(
+    replay_shows::beside_the_calls(
         row,
         number,
         numbers,

@@ -1,11 +1,11 @@
 -- What a line of a replay leaves: its answer's text, the table in use, the hand. Assumes nothing.
-use Prim.Native.Nat.{ℕ, _+_, _*_, _≤_}
+use Prim.Native.Nat.{ℕ, _+_, _≤_}
 use mathlib.Core.Path.{_≡_}
 use mathlib.Core.List.{List, []}
 use lib.ListN.{length}
 use Rattle.model.specs.Memory.{Mem, mem}
 use Rattle.buffer.specs.Put.{Put}
-use Rattle.replay_calls.specs.declared.Turn.{Turn}
+use Rattle.replay_rows.specs.declared.Turn.{Turn}
 
 -- the memory in use, and the hand that the next evict passes in
 pub record World : Type 0 where

@@ -2,11 +2,11 @@
 use Prim.Native.Nat.{ℕ, zero, suc, _/_, _%_, _^_}
 use Prim.Native.String.{String}
 use mathlib.Core.Bool.{Bool, true, false, _&&_}
-use mathlib.Core.List.{List, [], _∷_, _++_}
+use mathlib.Core.List.{List, [], _∷_}
 use lib.ListN.{getD}
 use lib.Dec.{leb}
 use Rattle.model.specs.Choice.{choose}
-use Rattle.model.specs.Memory.{Mem, mem}
+use Rattle.model.specs.Memory.{mem}
 use Rattle.model.specs.Shape.{four, shape, good-lengths, fresh-memory}
 use Rattle.model.specs.Calling.{Call, grant, read, serve, set-animal, delete, evict, write-list}
 use Rattle.model.specs.Answers.{Answer, started, refused, hand-back}
@@ -14,8 +14,8 @@ use Rattle.model.specs.Lent.{lent-after, lent-call, lent-cut}
 use Rattle.replay_print.specs.Text.{bytes}
 use Rattle.replay_print.specs.Print.{line}
 use Rattle.replay_answers.specs.Text.{text, dump, not-understood, poke-told}
-use Rattle.replay_shows.specs.Poke.{can-poke, poked}
-use Rattle.replay_turns.specs.World.{World, Reply, world, reply}
+use Rattle.replay_rows.specs.Poke.{can-poke, poked}
+use Rattle.replay_rows.specs.World.{World, Reply, world, reply}
 
 -- it only says something
 abbrev pub says : List ℕ → World → Reply

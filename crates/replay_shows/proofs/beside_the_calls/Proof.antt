@@ -1,8 +1,8 @@
--- `replay_turns::beside_the_calls` meets its contract. Assumes nothing.
-use Rattle.replay_turns.proofs.Turns.{as-hand, as-list, as-poke-slots, as-poke-counters, as-poke-items, as-dump, as-not-understood}
+-- `replay_shows::beside_the_calls` meets its contract. Assumes nothing.
+use Rattle.replay_shows.proofs.Beside.{as-hand, as-list, as-poke-slots, as-poke-counters, as-poke-items, as-dump, as-not-understood}
 use borrow.Author.Needs.{needs}
-use Rattle.replay_turns.proofs.beside_the_calls.Statement.{statement}
-use Rattle.replay_turns.proofs.beside_the_calls.Tie as tie
+use Rattle.replay_shows.proofs.beside_the_calls.Statement.{statement}
+use Rattle.replay_shows.proofs.beside_the_calls.Tie as tie
 
 pub beside-the-calls-spec : {M : Type 1} → statement M
 beside-the-calls-spec =

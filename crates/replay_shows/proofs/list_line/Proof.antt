@@ -1,8 +1,8 @@
--- `replay_turns::list_line` meets its contract. Assumes nothing.
-use Rattle.replay_turns.proofs.Turns.{list-bytes, list-room, list-too-large, list-told}
+-- `replay_shows::list_line` meets its contract. Assumes nothing.
+use Rattle.replay_shows.proofs.Beside.{list-bytes, list-room, list-too-large, list-told}
 use borrow.Author.Needs.{needs}
-use Rattle.replay_turns.proofs.list_line.Statement.{statement}
-use Rattle.replay_turns.proofs.list_line.Tie as tie
+use Rattle.replay_shows.proofs.list_line.Statement.{statement}
+use Rattle.replay_shows.proofs.list_line.Tie as tie
 
 pub list-line-spec : {M : Type 1} → statement M
 list-line-spec =

@@ -1,0 +1,113 @@
+-- The rows beside the calls: each arm of the code means what its row means. Assumes nothing.
+use Prim.Native.Nat.{ℕ, zero, suc, _+_, _*_, _≤_, _<_}
+use native.Mathlib.Omega.{arith}
+use mathlib.Core.Path.{_≡_, refl, sym, ap}
+use mathlib.Core.Logic.{_≢_}
+use mathlib.Core.Bool.{Bool}
+use mathlib.Core.List.{List, [], _∷_}
+use lib.ListN.{length, getD, take}
+use lib.Seq.{length-take-le}
+use borrow.Author.Tests.{le-leb, lt-leb}
+use Rattle.model.specs.Memory.{Mem, mem}
+use Rattle.model.specs.Shape.{four}
+use Rattle.model.specs.Calling.{write-list}
+use Rattle.model.specs.Lent.{lent-call}
+use Rattle.buffer.specs.Put.{Put}
+use Rattle.replay_print.specs.Text.{bytes}
+use Rattle.replay_print.specs.Print.{line}
+use Rattle.replay_answers.specs.Text.{text, dump, not-understood, poke-told}
+use Rattle.replay_rows.specs.Poke.{Poked}
+use Rattle.replay_rows.specs.declared.Turn.{Turn}
+use Rattle.replay_rows.specs.World.{Ample, World, Replied, world, longest}
+use Rattle.replay_rows.specs.Meaning.{Row, rows, asks, hands, lists, meant, meaning, pokes-slots, pokes-counters, pokes-items, says}
+
+-- an arm that keeps the hand
+abbrev Arm : (row n : ℕ) (xs : List ℕ) (m : Mem) (h : ℕ) (m′ : Mem) (at : ℕ) (before after : List ℕ) (next : ℕ) → Type 0
+Arm row n xs m h m′ at before after next = Replied (meaning row n xs (world m h)) m′ at before after (record { next = next; hand = h })
+
+-- the rows from 12 on
+module _ {m : Mem} {at : ℕ} {before after : List ℕ} {row : ℕ} (h n : ℕ) (xs : List ℕ) where
+  pub as-hand : {next : ℕ} → row ≡ 12 → Put (line (bytes "hand")) at before after next
+      → Replied (meaning row n xs (world m h)) m at before after (record { next = next; hand = getD xs 0 0 })
+  unfolding meaning hands
+  as-hand e p = rw e (record { put = p; near = omega (arith, p .next); left = refl; hand = refl })
+
+  pub as-list : {r : Turn} → row ≡ 13 → Replied (lists n (getD xs 0 0) (world m h)) m at before after r
+      → Replied (meaning row n xs (world m h)) m at before after r
+  unfolding meaning
+  as-list e y = rw e y
+
+  module _ {next : ℕ} where
+    pub as-poke-slots : {b : Bool} {run : List ℕ} → row ≡ 14 → Poked 4294967295 (getD xs 0 0) (getD xs 1 0) (m .slots) run b
+        → Put (poke-told b) at before after next → next ≤ at + 384 → Arm row n xs m h (mem run (m .counters) (m .items)) at before after next
+    unfolding meaning pokes-slots
+    as-poke-slots e k p l =
+        rw e
+        (record {
+          put = rw (← k .told) p;
+          near = omega arith;
+          left = ap (λ (s : List ℕ). mem s (m .counters) (m .items)) (k .left);
+          hand = refl;
+        })
+
+    pub as-poke-counters : {b : Bool} {run : List ℕ} → row ≡ 15 → Poked 4294967295 (getD xs 0 0) (getD xs 1 0) (m .counters) run b
+        → Put (poke-told b) at before after next → next ≤ at + 384 → Arm row n xs m h (mem (m .slots) run (m .items)) at before after next
+    unfolding meaning pokes-counters
+    as-poke-counters e k p l =
+        rw e
+        (record {
+          put = rw (← k .told) p;
+          near = omega arith;
+          left = ap (λ (s : List ℕ). mem (m .slots) s (m .items)) (k .left);
+          hand = refl;
+        })
+
+    pub as-poke-items : {b : Bool} {run : List ℕ} → row ≡ 16 → Poked 18446744073709551615 (getD xs 0 0) (getD xs 1 0) (m .items) run b
+        → Put (poke-told b) at before after next → next ≤ at + 384 → Arm row n xs m h (mem (m .slots) (m .counters) run) at before after next
+    unfolding meaning pokes-items
+    as-poke-items e k p l =
+        rw e
+        (record {
+          put = rw (← k .told) p;
+          near = omega arith;
+          left = ap (λ (s : List ℕ). mem (m .slots) (m .counters) s) (k .left);
+          hand = refl;
+        })
+
+    pub as-dump : row ≡ 17 → Ample m at before → Put (dump m) at before after next
+        → next ≤ at + 384 + 21 * (length (m .slots) + length (m .counters) + length (m .items)) → Arm row n xs m h m at before after next
+    unfolding meaning
+    as-dump e a p l = rw e (record { put = p; near = omega (arith, a .slots, a .counters, a .items); left = refl; hand = refl })
+
+-- a line that follows no row
+beyond : (ts : List Row) (r n : ℕ) (xs : List ℕ) (w : World) → length ts ≤ r → meant ts r n xs w ≡ says (not-understood n) w
+beyond [] r n xs w h = refl
+beyond (t ∷ ts) zero n xs w h = absurd (omega arith)
+beyond (t ∷ ts) (suc r) n xs w h = beyond ts r n xs w (omega arith)
+
+module _ {m : Mem} {at h next : ℕ} {before after : List ℕ} {row : ℕ} (n : ℕ) (xs : List ℕ) where
+  pub as-not-understood : 12 ≤ row → row ≢ 12 → row ≢ 13 → row ≢ 14 → row ≢ 15 → row ≢ 16 → row ≢ 17 → Put (not-understood n) at before after next → next ≤ at + 384
+      → Arm row n xs m h m at before after next
+  unfolding meaning
+  as-not-understood lo n2 n3 n4 n5 n6 n7 p l =
+      let k : 18 ≤ row = omega arith in
+      rw (beyond rows row n xs (world m h) k) (record { put = p; near = omega arith; left = refl; hand = refl })
+
+-- the list: the bytes lent for it are there, and its lines have room
+pub list-bytes : (n : ℕ) (run : List ℕ) → length run ≡ 81920 → n ≤ 81920 → n ≡ length (take n run)
+list-bytes n run e h = let k : n ≤ length run = omega arith in sym (length-take-le n run k)
+
+pub list-room : (at n : ℕ) (run out : List ℕ) → length run ≡ 81920 → n ≤ 81920 → at + longest ≤ length out → at + 384 + 3 * length (take n run) ≤ length out
+list-room at n run out e h r = omega (arith, list-bytes n run e h)
+
+module _ {m : Mem} {at next : ℕ} {before after : List ℕ} (h n size : ℕ) where
+  pub list-too-large : 81920 < size → Put (not-understood n) at before after next → next ≤ at + 384
+      → Replied (lists n size (world m h)) m at before after (record { next = next; hand = h })
+  unfolding lists
+  list-too-large k p l = rw (lt-leb size 81920 k) (record { put = p; near = omega arith; left = refl; hand = refl })
+
+  pub list-told : (run : List ℕ) → length run ≡ 81920 → size ≤ 81920 → Put (text (lent-call four m (write-list (length (take size run))) .answer)) at before after next
+      → next ≤ at + 384 + 3 * length (take size run) → Replied (lists n size (world m h)) m at before after (record { next = next; hand = h })
+  unfolding lists asks
+  list-told run e s p l =
+      rw (le-leb size 81920 s) (record { put = rw (list-bytes size run e s) p; near = omega (arith, list-bytes size run e s); left = refl; hand = refl })
