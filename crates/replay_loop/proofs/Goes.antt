@@ -14,7 +14,7 @@ use Rattle.replay_words.specs.declared.Piece.{Piece}
 use Rattle.replay_lines.specs.Line.{said, padded}
 use Rattle.replay_rows.specs.World.{Reply, longest}
 use Rattle.replay_rows.specs.Meaning.{meaning}
-use Rattle.replay_loop.specs.Replayed.{language, replayed, reply-to}
+use Rattle.replay_rows.specs.Replayed.{language, replayed, reply-to}
 use Rattle.replay_loop.specs.Standing.{in-use, Held, LineRead, Stepped, Went}
 use Rattle.replay_loop.specs.declared.Read.{Read}
 use Rattle.replay_loop.specs.declared.State.{State}

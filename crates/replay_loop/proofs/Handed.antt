@@ -7,7 +7,7 @@ use lib.ListN.{length, take, drop, drop-of-length-le, length-append}
 use lib.Seq.{take-at, drop-at, length-take-le}
 use Rattle.replay_words.specs.Words.{lines}
 use Rattle.replay_rows.specs.World.{longest}
-use Rattle.replay_loop.specs.Replayed.{answers, replayed}
+use Rattle.replay_rows.specs.Replayed.{answers, replayed}
 use Rattle.replay_loop.specs.Standing.{coming, in-use, Held, Next, Went}
 use Rattle.replay_loop.specs.declared.State.{State}
 

@@ -10,7 +10,7 @@ use Rattle.replay_words.specs.Words.{lines}
 use Rattle.replay_answers.specs.Text.{text}
 use Rattle.replay_rows.specs.World.{World, Reply, world, longest}
 use Rattle.replay_rows.specs.Meaning.{meaning}
-use Rattle.replay_loop.specs.Replayed.{answers, replayed}
+use Rattle.replay_rows.specs.Replayed.{answers, replayed}
 use Rattle.replay_loop.specs.declared.Read.{Read}
 use Rattle.replay_loop.specs.declared.State.{State}
 

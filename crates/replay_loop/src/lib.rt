@@ -4,7 +4,7 @@ ghost use Prim.Native.Nat.{_+_, _<_, _≤_};
 ghost use lib.ListN.{length};
 ghost use Rattle.replay_rows.specs.Meaning.{meaning, starts};
 ghost use Rattle.replay_rows.specs.World.{longest};
-ghost use Rattle.replay_loop.specs.Replayed.{answers, language};
+ghost use Rattle.replay_rows.specs.Replayed.{answers, language};
 ghost use Rattle.replay_lines.specs.Line.{said, padded};
 ghost use Rattle.replay_loop.specs.Standing.{in-use, Held, LineRead, Next, Stepped, Refused, Went};
 use libc::STDOUT_FILENO;

@@ -1,3 +1,4 @@
 pub mod World
 pub mod Poke
 pub mod Meaning
+pub mod Replayed

@@ -1,0 +1,76 @@
+-- The language's rows, and a text with its answers, by computation. Assumes nothing.
+use Prim.Native.Nat.{ℕ}
+use mathlib.Core.Path.{_≡_, refl}
+use mathlib.Core.List.{List, [], _∷_}
+use Rattle.model.specs.Choice.{first, range}
+use Rattle.model.specs.Memory.{damaged, place, tag}
+use Rattle.model.specs.Hash.{bytes as low-bytes, fnv, fnv-step, hash, odd-up, other-bucket, spread, tag-from}
+use Rattle.model.specs.Shape.{good-counters, good-items, good-lengths, good-slots}
+use Rattle.model.specs.Visits.{climb, first-free, free-slot, hops, lowest, next-level, visits}
+use Rattle.model.specs.Age.{age, is-fresh, verdict}
+use Rattle.model.specs.Clock.{next-hand, passed-recent, seek-victim}
+use Rattle.model.specs.Listing.{list-record, listing, live-count, records}
+use Rattle.model.specs.Calls.{hit, hits, slot-of, some-live, vacant-place}
+use Rattle.model.specs.Stores.{stores}
+use Rattle.replay_words.specs.Words.{all-digits, before, filled, lines, number, number-from, pieces, same, value, without-comment, without-return, words}
+use Rattle.replay_print.specs.Text.{bytes}
+use Rattle.replay_print.specs.Print.{decimal-of, digits, hex-digit, hex-of, hexes, numbered, record-lines, told}
+use Rattle.replay_lines.specs.Line.{Said, bound, first-row, fitting, said, taken}
+use Rattle.replay_rows.specs.Meaning.{asks, calls, cut-turns, cuts, hands, lists, meaning, pokes-counters, pokes-items, pokes-slots, starts, turns}
+use Rattle.replay_rows.specs.Replayed.{answers, language, replayed, reply-to}
+
+abbrev row : ℕ → List ℕ → Said
+row r ns = record { row = r; numbers = ns }
+
+pub understood :
+    (said language (bytes "set 7 15 30") ≡ row 2 (7 ∷ 15 ∷ 30 ∷ []))
+    × (said language (bytes "\tset  7 015\t30 standing\r") ≡ row 3 (7 ∷ 15 ∷ 30 ∷ []))
+    × (said language (bytes "set 1 4294967295 2") ≡ row 2 (1 ∷ 4294967295 ∷ 2 ∷ []))
+    × (said language (bytes "fresh 8 4 16") ≡ row 1 (8 ∷ 4 ∷ 16 ∷ []))
+    × (said language (bytes "read 1 2 3#x") ≡ row 4 (1 ∷ 2 ∷ 3 ∷ []))
+    × (said language (bytes "serve 1 2 3 # x") ≡ row 5 (1 ∷ 2 ∷ 3 ∷ []))
+    × (said language (bytes "delete 9") ≡ row 6 (9 ∷ []))
+    × (said language (bytes "evict") ≡ row 7 ([]))
+    × (said language (bytes "hand 18446744073709551615") ≡ row 12 (18446744073709551615 ∷ []))
+    × (said language (bytes "cut 5 set 1 2 3") ≡ row 8 (5 ∷ 1 ∷ 2 ∷ 3 ∷ []))
+    × (said language (bytes "cut 5 set 1 2 3 standing") ≡ row 9 (5 ∷ 1 ∷ 2 ∷ 3 ∷ []))
+    × (said language (bytes "cut 5 delete 9") ≡ row 10 (5 ∷ 9 ∷ []))
+    × (said language (bytes "cut 5 evict") ≡ row 11 (5 ∷ []))
+    × (said language (bytes "list 81920") ≡ row 13 (81920 ∷ []))
+    × (said language (bytes "poke slots 0 9") ≡ row 14 (0 ∷ 9 ∷ []))
+    × (said language (bytes "poke counters 0 9") ≡ row 15 (0 ∷ 9 ∷ []))
+    × (said language (bytes "poke items 0 9") ≡ row 16 (0 ∷ 9 ∷ []))
+    × (said language (bytes "dump") ≡ row 17 ([]))
+    × (said language (bytes "# set 7 15 30") ≡ row 0 ([]))
+unfolding said first-row fitting taken bound lines words pieces filled before same number number-from value all-digits without-comment without-return
+understood = (refl, refl, refl, refl, refl, refl, refl, refl, refl, refl, refl, refl, refl, refl, refl, refl, refl, refl, refl)
+
+-- no row fits: there are 18
+pub not-understood :
+    (said language (bytes "hand 18446744073709551616") ≡ row 18 [])
+    × (said language (bytes "hand +1") ≡ row 18 [])
+    × (said language (bytes "hand 1a") ≡ row 18 [])
+    × (said language (bytes "hand") ≡ row 18 [])
+    × (said language (bytes "hand 1 1") ≡ row 18 [])
+    × (said language (bytes "set 1 4294967296 2") ≡ row 18 [])
+    × (said language (bytes "set 1 2 3 standin") ≡ row 18 [])
+    × (said language (bytes "set 1 2 3 standing 4") ≡ row 18 [])
+    × (said language (bytes "fresh 1 2") ≡ row 18 [])
+    × (said language (bytes "evict 1") ≡ row 18 [])
+    × (said language (bytes "Dump") ≡ row 18 [])
+    × (said language (bytes "dumps") ≡ row 18 [])
+    × (said language (bytes "dump\r\r") ≡ row 18 [])
+    × (said language (bytes "cut 5 read 1 2 3") ≡ row 18 [])
+    × (said language (bytes "cut evict") ≡ row 18 [])
+    × (said language (bytes "poke 0 9") ≡ row 18 [])
+unfolding said first-row fitting taken bound lines words pieces filled before same number number-from value all-digits without-comment without-return
+not-understood = (refl, refl, refl, refl, refl, refl, refl, refl, refl, refl, refl, refl, refl, refl, refl, refl)
+
+-- a cow that is set, read, served and deleted but for one store; another that stays; and what is answered to the rest
+abbrev day : List ℕ
+day = bytes "# a day of one cow\nfresh 8 1 4\nset 1 5 2\nread 1 720 2\nserve\t1 0 9\ncut 1 delete 1\nread 1 720 3\nfresh 8 1 8\nset 7 4294967295 5 standing\nread 7 0 9\ncut 3 evict\nhand 1\nevict\nlist 20\nset 1 4294967296 2\npoke items 4 9\npoke slots 8 1\nlist 81921\ndump"
+
+pub day-answered : answers day
+    ≡ bytes "fresh\nstored 1 0\nfresh 5 0\nold 7\ndeleted\nrefused 8\nfresh\nstored 1 0\nfresh 4294967295 0\nevicted 7 3 1\nhand\nrefused 8\nlisted 1\n0700000000000000ffffffffffffffffffffffff\nline 15: not understood\npoked\nno such word\nline 18: not understood\nslots 0 0 0 0 0 0 0 0\ncounters 3\nitems 7 4294967295 18446744073709551615 0 9 0 0 0\n"
+unfolding replayed reply-to meaning starts asks calls cuts turns cut-turns hands lists pokes-slots pokes-counters pokes-items said first-row fitting taken bound lines words pieces filled before same number number-from value all-digits without-comment without-return told numbered decimal-of digits record-lines hexes hex-of hex-digit hash fnv fnv-step low-bytes tag-from odd-up spread other-bucket tag place damaged range first good-lengths good-slots good-counters good-items hits hit vacant-place some-live visits next-level hops first-free free-slot lowest climb is-fresh age verdict next-hand seek-victim passed-recent slot-of list-record records live-count listing stores
+day-answered = refl
