@@ -27,7 +27,7 @@ pub record Reply : Type 0 where
 abbrev pub reply : List ℕ → Mem → ℕ → Reply
 reply t m h = record { text = t; world = world m h }
 
--- no answer is longer: 384 bytes for a line, and 22 for every word of the largest table, as many as its dump or its list can take
+-- no answer is longer: a dump has at most 384 bytes and 21 for each of 13,312 words, a list 384 and 3 for each of 81,920 bytes; rounded up
 abbrev pub longest : ℕ
 longest = 294912
 
