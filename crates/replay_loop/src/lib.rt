@@ -96,7 +96,7 @@ fn step(
     ensures { λ r. ⌜ Stepped (meaning row (state .number) (now (numbers .entry)) (in-use (now (slots .entry)) (now (counters .entry)) (now (items .entry)) state)) state r
         (now (slots .exit)) (now (counters .exit)) (now (items .exit)) (now (out .entry)) (now (out .exit)) ⌝ }
 {
-    if row == 1 {
+    if row == 16 {
         return start(
             numbers[0] as usize,
             numbers[1] as usize,
@@ -139,7 +139,7 @@ fn row_of(line: &[u8], numbers: &mut [u64]) -> usize
     ensures { λ r. ⌜ (r ≡ said language (now (line .entry)) .row) × (now (numbers .exit) ≡ padded (length (now (numbers .entry))) (said language (now (line .entry)) .numbers)) ⌝ }
 {
     replay_lines::row_of(
-        b"\nfresh N N N\nset N P N\nset N P N standing\nread N N N\nserve N N N\ndelete N\nevict\ncut N set N P N\ncut N set N P N standing\ncut N delete N\ncut N evict\nhand N\nlist N\npoke slots N N\npoke counters N N\npoke items N N\ndump\n",
+        b"serve N N N\nread N N N\nset N P N\nset N P N standing\ndelete N\nevict\ncut N set N P N\ncut N set N P N standing\ncut N delete N\ncut N evict\nhand N\nlist N\npoke slots N N\npoke counters N N\npoke items N N\ndump\nfresh N N N\n\n",
         line,
         numbers,
     )

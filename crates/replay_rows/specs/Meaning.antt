@@ -87,15 +87,13 @@ row s f = record { says = s; means = f }
 abbrev pub permission : ℕ → ℕ
 permission p = p % 2 ^ 32
 
--- the language: N a number, P a permission
+-- the language: N a number, P a permission. The first row that fits is taken, so the calls of a gate's day stand first
 abbrev pub rows : List Row
 rows =
-    row "" (λ n x w. says [] w)
-    ∷ row "fresh N N N" (λ n x. starts (x 0) (x 1) (x 2))
+    row "serve N N N" (λ n x. calls (serve (x 0) (x 1) (x 2)))
+    ∷ row "read N N N" (λ n x. asks (read (x 0) (x 1) (x 2)))
     ∷ row "set N P N" (λ n x. calls (set-animal (grant (x 0) (permission (x 1)) (x 2) false)))
     ∷ row "set N P N standing" (λ n x. calls (set-animal (grant (x 0) (permission (x 1)) (x 2) true)))
-    ∷ row "read N N N" (λ n x. asks (read (x 0) (x 1) (x 2)))
-    ∷ row "serve N N N" (λ n x. calls (serve (x 0) (x 1) (x 2)))
     ∷ row "delete N" (λ n x. calls (delete (x 0)))
     ∷ row "evict" (λ n x. turns)
     ∷ row "cut N set N P N" (λ n x. cuts (x 0) (set-animal (grant (x 1) (permission (x 2)) (x 3) false)))
@@ -108,6 +106,8 @@ rows =
     ∷ row "poke counters N N" (λ n x. pokes-counters (x 0) (x 1))
     ∷ row "poke items N N" (λ n x. pokes-items (x 0) (x 1))
     ∷ row "dump" (λ n x w. says (dump (w .memory)) w)
+    ∷ row "fresh N N N" (λ n x. starts (x 0) (x 1) (x 2))
+    ∷ row "" (λ n x w. says [] w)
     ∷ []
 
 -- what line n means that follows row r with these numbers; with no row it is not understood

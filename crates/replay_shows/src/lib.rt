@@ -1,5 +1,6 @@
 // The lines of a replay beside the table's calls: the hand, the list, a poke, a dump, and what is not understood.
 ghost use mathlib.Core.Path.{_≡_};
+ghost use mathlib.Core.Logic.{_≢_};
 ghost use Prim.Native.Nat.{_+_, _*_, _≤_};
 ghost use lib.ListN.{length};
 ghost use Rattle.model.specs.Memory.{mem};
@@ -85,7 +86,7 @@ fn list_line(
     }
 }
 
-// The rows from 12 on: the hand, a list, a poke, a dump, and a line that follows no row.
+// The rows from 10 on but for fresh: the hand, a list, a poke, a dump, a blank line, and one that follows no row.
 pub fn beside_the_calls(
     row: usize,
     number: u64,
@@ -98,7 +99,7 @@ pub fn beside_the_calls(
     at: usize,
     hand: usize,
 ) -> Turn
-    requires { ⌜ (12 ≤ row) × (length (now numbers) ≡ 8) × (length (now records) ≡ 81920) ⌝ }
+    requires { ⌜ (10 ≤ row) × (row ≢ 16) × (length (now numbers) ≡ 8) × (length (now records) ≡ 81920) ⌝ }
     requires { ⌜ Ample (mem (now slots) (now counters) (now items)) at (now out) ⌝ }
     ensures { λ r. ⌜ Replied (meaning row number (now (numbers .entry)) (world (mem (now (slots .entry)) (now (counters .entry)) (now (items .entry))) hand))
         (mem (now (slots .exit)) (now (counters .exit)) (now (items .exit))) at (now (out .entry)) (now (out .exit)) r ⌝ }
@@ -106,36 +107,37 @@ pub fn beside_the_calls(
     let a = numbers[0];
     let b = numbers[1];
     match row {
-        12 => Turn {
+        10 => Turn {
             next: replay_print::put_line(out, at, b"hand"),
             hand: a as usize,
         },
-        13 => list_line(number, a, slots, counters, items, records, out, at, hand),
-        14 => {
+        11 => list_line(number, a, slots, counters, items, records, out, at, hand),
+        12 => {
             let poked = poke32(slots, a, b);
             Turn {
                 next: replay_answers::put_poked(out, at, poked),
                 hand,
             }
         }
-        15 => {
+        13 => {
             let poked = poke32(counters, a, b);
             Turn {
                 next: replay_answers::put_poked(out, at, poked),
                 hand,
             }
         }
-        16 => {
+        14 => {
             let poked = poke64(items, a, b);
             Turn {
                 next: replay_answers::put_poked(out, at, poked),
                 hand,
             }
         }
-        17 => Turn {
+        15 => Turn {
             next: replay_answers::put_dump(out, at, slots, counters, items),
             hand,
         },
+        17 => Turn { next: at, hand },
         _ => Turn {
             next: replay_answers::put_not_understood(out, at, number),
             hand,

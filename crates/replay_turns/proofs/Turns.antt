@@ -55,44 +55,40 @@ module _ {m m′ : Mem} {at h next : ℕ} {before after : List ℕ} {row : ℕ} 
   unfolding meaning
   as-standing {g} e q w = rw (e, ← q) (called (set-animal g) w)
 
-  pub as-serve : row ≡ 5 → Whole m (serve (getD xs 0 0) (getD xs 1 0) (getD xs 2 0)) m′ at before after next → Arm row n xs m h m′ at before after next
+  pub as-serve : row ≡ 0 → Whole m (serve (getD xs 0 0) (getD xs 1 0) (getD xs 2 0)) m′ at before after next → Arm row n xs m h m′ at before after next
   unfolding meaning
   as-serve e w = rw e (called (serve (getD xs 0 0) (getD xs 1 0) (getD xs 2 0)) w)
 
-  pub as-delete : row ≡ 6 → Whole m (delete (getD xs 0 0)) m′ at before after next → Arm row n xs m h m′ at before after next
+  pub as-delete : row ≡ 4 → Whole m (delete (getD xs 0 0)) m′ at before after next → Arm row n xs m h m′ at before after next
   unfolding meaning
   as-delete e w = rw e (called (delete (getD xs 0 0)) w)
 
-  pub as-cut-set : {g : Grant} → row ≡ 8 → g ≡ grant (getD xs 1 0) (permission (getD xs 2 0)) (getD xs 3 0) false
+  pub as-cut-set : {g : Grant} → row ≡ 6 → g ≡ grant (getD xs 1 0) (permission (getD xs 2 0)) (getD xs 3 0) false
       → Cut m (set-animal g) (getD xs 0 0) m′ at before after next → Arm row n xs m h m′ at before after next
   unfolding meaning
   as-cut-set {g} e q w = rw (e, ← q) (cut-off (set-animal g) (getD xs 0 0) w)
 
-  pub as-cut-standing : {g : Grant} → row ≡ 9 → g ≡ grant (getD xs 1 0) (permission (getD xs 2 0)) (getD xs 3 0) true
+  pub as-cut-standing : {g : Grant} → row ≡ 7 → g ≡ grant (getD xs 1 0) (permission (getD xs 2 0)) (getD xs 3 0) true
       → Cut m (set-animal g) (getD xs 0 0) m′ at before after next → Arm row n xs m h m′ at before after next
   unfolding meaning
   as-cut-standing {g} e q w = rw (e, ← q) (cut-off (set-animal g) (getD xs 0 0) w)
 
-  pub as-cut-delete : row ≡ 10 → Cut m (delete (getD xs 1 0)) (getD xs 0 0) m′ at before after next → Arm row n xs m h m′ at before after next
+  pub as-cut-delete : row ≡ 8 → Cut m (delete (getD xs 1 0)) (getD xs 0 0) m′ at before after next → Arm row n xs m h m′ at before after next
   unfolding meaning
   as-cut-delete e w = rw e (cut-off (delete (getD xs 1 0)) (getD xs 0 0) w)
 
 module _ {m : Mem} {at h next : ℕ} {before after : List ℕ} {row : ℕ} (n : ℕ) (xs : List ℕ) where
-  pub as-read : row ≡ 4 → Told (answer-of m (read (getD xs 0 0) (getD xs 1 0) (getD xs 2 0))) at before after next → Arm row n xs m h m at before after next
+  pub as-read : row ≡ 1 → Told (answer-of m (read (getD xs 0 0) (getD xs 1 0) (getD xs 2 0))) at before after next → Arm row n xs m h m at before after next
   unfolding meaning
   as-read e t = rw e (asked (read (getD xs 0 0) (getD xs 1 0) (getD xs 2 0)) t)
 
 module _ {m m′ : Mem} {at h : ℕ} {before after : List ℕ} {row : ℕ} {r : Turn} (n : ℕ) (xs : List ℕ) where
-  pub as-evict : 2 ≤ row → row ≤ 7 → row ≢ 2 → row ≢ 3 → row ≢ 4 → row ≢ 5 → row ≢ 6 → Whole m (evict h) m′ at before after (r .next) → r .hand ≡ hand-back h (answer-of m (evict h))
+  pub as-evict : row ≤ 5 → row ≢ 0 → row ≢ 1 → row ≢ 2 → row ≢ 3 → row ≢ 4 → Whole m (evict h) m′ at before after (r .next) → r .hand ≡ hand-back h (answer-of m (evict h))
       → Replied (meaning row n xs (world m h)) m′ at before after r
   unfolding meaning
-  as-evict lo hi n2 n3 n4 n5 n6 w b = let e : row ≡ 7 = omega arith in rw e (turned w b)
+  as-evict hi n0 n1 n2 n3 n4 w b = let e : row ≡ 5 = omega arith in rw e (turned w b)
 
-  pub as-cut-evict : 8 ≤ row → row ≤ 11 → row ≢ 8 → row ≢ 9 → row ≢ 10 → Cut m (evict h) (getD xs 0 0) m′ at before after (r .next) → r .hand ≡ hand-back h (answer-of m (evict h))
+  pub as-cut-evict : 6 ≤ row → row ≤ 9 → row ≢ 6 → row ≢ 7 → row ≢ 8 → Cut m (evict h) (getD xs 0 0) m′ at before after (r .next) → r .hand ≡ hand-back h (answer-of m (evict h))
       → Replied (meaning row n xs (world m h)) m′ at before after r
   unfolding meaning
-  as-cut-evict lo hi n8 n9 n10 w b = let e : row ≡ 11 = omega arith in rw e (cut-turned (getD xs 0 0) w b)
-
-pub as-blank : {m : Mem} {at h : ℕ} {before : List ℕ} {row : ℕ} (n : ℕ) (xs : List ℕ) → row ≡ 0 → Arm row n xs m h m at before before at
-unfolding meaning
-as-blank n xs e = rw e (record { put = record { bytes-put = refl; next = omega arith }; near = omega arith; left = refl; hand = refl })
+  as-cut-evict lo hi n6 n7 n8 w b = let e : row ≡ 9 = omega arith in rw e (cut-turned (getD xs 0 0) w b)

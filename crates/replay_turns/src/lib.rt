@@ -22,7 +22,7 @@ fn granted(animal: u64, p: u64, minute: u64, standing: bool) -> Grant
     }
 }
 
-// Rows 2 to 7: set, read, serve, delete, evict.
+// Rows 0 to 5: serve, read, set, delete, evict.
 fn whole_call(
     row: usize,
     number: u64,
@@ -34,7 +34,7 @@ fn whole_call(
     at: usize,
     hand: usize,
 ) -> Turn
-    requires { ⌜ (2 ≤ row) × (row ≤ 7) × (length (now numbers) ≡ 8) ⌝ }
+    requires { ⌜ (row ≤ 5) × (length (now numbers) ≡ 8) ⌝ }
     requires { ⌜ Ample (mem (now slots) (now counters) (now items)) at (now out) ⌝ }
     ensures { λ r. ⌜ Replied (meaning row number (now (numbers .entry)) (world (mem (now (slots .entry)) (now (counters .entry)) (now (items .entry))) hand))
         (mem (now (slots .exit)) (now (counters .exit)) (now (items .exit))) at (now (out .entry)) (now (out .exit)) r ⌝ }
@@ -43,6 +43,14 @@ fn whole_call(
     let b = numbers[1];
     let c = numbers[2];
     match row {
+        0 => Turn {
+            next: replay_calls::answer_serve(slots, counters, items, a, b, c, out, at),
+            hand,
+        },
+        1 => Turn {
+            next: replay_calls::answer_read(slots, counters, items, a, b, c, out, at),
+            hand,
+        },
         2 => Turn {
             next: replay_calls::answer_set(
                 slots,
@@ -59,14 +67,6 @@ fn whole_call(
             hand,
         },
         4 => Turn {
-            next: replay_calls::answer_read(slots, counters, items, a, b, c, out, at),
-            hand,
-        },
-        5 => Turn {
-            next: replay_calls::answer_serve(slots, counters, items, a, b, c, out, at),
-            hand,
-        },
-        6 => Turn {
             next: replay_calls::answer_delete(slots, counters, items, a, out, at),
             hand,
         },
@@ -74,7 +74,7 @@ fn whole_call(
     }
 }
 
-// Rows 8 to 11: a call that is cut behind its first k stores.
+// Rows 6 to 9: a call that is cut behind its first k stores.
 fn cut_call(
     row: usize,
     number: u64,
@@ -86,7 +86,7 @@ fn cut_call(
     at: usize,
     hand: usize,
 ) -> Turn
-    requires { ⌜ (8 ≤ row) × (row ≤ 11) × (length (now numbers) ≡ 8) ⌝ }
+    requires { ⌜ (6 ≤ row) × (row ≤ 9) × (length (now numbers) ≡ 8) ⌝ }
     requires { ⌜ Ample (mem (now slots) (now counters) (now items)) at (now out) ⌝ }
     ensures { λ r. ⌜ Replied (meaning row number (now (numbers .entry)) (world (mem (now (slots .entry)) (now (counters .entry)) (now (items .entry))) hand))
         (mem (now (slots .exit)) (now (counters .exit)) (now (items .exit))) at (now (out .entry)) (now (out .exit)) r ⌝ }
@@ -96,7 +96,7 @@ fn cut_call(
     let b = numbers[2];
     let c = numbers[3];
     match row {
-        8 => Turn {
+        6 => Turn {
             next: replay_calls::answer_set_cut(
                 slots,
                 counters,
@@ -108,7 +108,7 @@ fn cut_call(
             ),
             hand,
         },
-        9 => Turn {
+        7 => Turn {
             next: replay_calls::answer_set_cut(
                 slots,
                 counters,
@@ -120,7 +120,7 @@ fn cut_call(
             ),
             hand,
         },
-        10 => Turn {
+        8 => Turn {
             next: replay_calls::answer_delete_cut(slots, counters, items, a, k, out, at),
             hand,
         },
@@ -141,18 +141,15 @@ pub fn on_table(
     at: usize,
     hand: usize,
 ) -> Turn
-    requires { ⌜ (row ≢ 1) × (length (now numbers) ≡ 8) × (length (now records) ≡ 81920) ⌝ }
+    requires { ⌜ (row ≢ 16) × (length (now numbers) ≡ 8) × (length (now records) ≡ 81920) ⌝ }
     requires { ⌜ Ample (mem (now slots) (now counters) (now items)) at (now out) ⌝ }
     ensures { λ r. ⌜ Replied (meaning row number (now (numbers .entry)) (world (mem (now (slots .entry)) (now (counters .entry)) (now (items .entry))) hand))
         (mem (now (slots .exit)) (now (counters .exit)) (now (items .exit))) at (now (out .entry)) (now (out .exit)) r ⌝ }
 {
-    if row == 0 {
-        return Turn { next: at, hand };
-    }
-    if row <= 7 {
+    if row <= 5 {
         return whole_call(row, number, numbers, slots, counters, items, out, at, hand);
     }
-    if row <= 11 {
+    if row <= 9 {
         return cut_call(row, number, numbers, slots, counters, items, out, at, hand);
     }
     replay_shows::beside_the_calls(

@@ -1,5 +1,5 @@
 -- `replay_turns::whole_call` meets its contract. Assumes nothing.
-use Rattle.replay_turns.proofs.Turns.{as-set, as-standing, as-read, as-serve, as-delete, as-evict}
+use Rattle.replay_turns.proofs.Turns.{as-serve, as-read, as-set, as-standing, as-delete, as-evict}
 use borrow.Author.Needs.{needs}
 use Rattle.replay_turns.proofs.whole_call.Statement.{statement}
 use Rattle.replay_turns.proofs.whole_call.Tie as tie
@@ -23,12 +23,7 @@ whole-call-spec =
     (λ c. search needs)
     (λ c. search needs)
     (λ c. search needs)
-    (λ c. search as-set)
-    (λ c. search needs)
-    (λ c. search needs)
-    (λ c. search needs)
-    (λ c. search needs)
-    (λ c. search as-standing)
+    (λ c. search as-serve)
     (λ c. search needs)
     (λ c. search needs)
     (λ c. search needs)
@@ -38,7 +33,12 @@ whole-call-spec =
     (λ c. search needs)
     (λ c. search needs)
     (λ c. search needs)
-    (λ c. search as-serve)
+    (λ c. search as-set)
+    (λ c. search needs)
+    (λ c. search needs)
+    (λ c. search needs)
+    (λ c. search needs)
+    (λ c. search as-standing)
     (λ c. search needs)
     (λ c. search needs)
     (λ c. search needs)
