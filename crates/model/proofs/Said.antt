@@ -4,7 +4,6 @@ use native.Mathlib.Omega.{arith}
 use mathlib.Core.Path.{_≡_, refl, sym, ap, _∙_, ap₂}
 use Rattle.model.specs.Answers.{Answer, absent, ahead, at-place, deleted, evicted, fresh, listed, old, refused, started, stored}
 use Rattle.model.specs.Said.{said-deleting, said-finding, said-reading, said-setting, said-starting}
-use Rattle.model.specs.Calls.{reading}
 use Rattle.model.specs.declared.Reading.{Reading}
 use Rattle.model.specs.declared.Reading.the-variants as reading
 use Rattle.model.specs.declared.Finding.{Finding}

@@ -7,7 +7,7 @@ use mathlib.Core.Option.{Option, none, some}
 use lib.Dec.{eqb}
 use borrow.Author.Tests.{eq-eqb, eqb-true}
 use Rattle.model.specs.Choice.{range}
-use Rattle.model.specs.Memory.{Mem, animal, permission, place, stamp, tag, word}
+use Rattle.model.specs.Memory.{Mem, animal, permission, place, stamp, word}
 use Rattle.model.specs.Shape.{Shape}
 use Rattle.model.specs.Stores.{Block, enter, move, recency, remove, stores-of, update}
 use Rattle.model.specs.WellFormed.{Right, WellFormed}

@@ -1,7 +1,6 @@
 -- One call on a well-formed table: its blocks have their conditions, its answer and its item words are the row's. Read, serve, find,
 -- delete and the list. Assumes nothing.
 use Prim.Native.Nat.{ℕ, _*_, _^_, _-_, _%_}
-use native.Mathlib.Omega.{arith}
 use mathlib.Core.Path.{_≡_, refl, sym, ap, _∙_, subst, ap₂}
 use mathlib.Core.Logic.{_≢_}
 use mathlib.Core.Bool.{Bool, true, false}

@@ -8,19 +8,6 @@ pub aim-at-spec : {M : Type 1} → statement M
 aim-at-spec =
     tie.close
     (tie.spec
-    (λ c. search needs)
-    (λ c κs. search needs)
-    (λ c κs. search needs)
-    (λ c κs. search needs)
-    (λ c. search aim-busy)
-    (λ c κs. search needs)
-    (λ c. search needs)
-    (λ c κs. search needs)
-    (λ c. search aim-hurt)
-    (λ c. search needs)
-    (λ c. search needs)
-    (λ c κs. search needs)
-    (λ c. search needs)
-    (λ c. search needs)
-    (λ c. search aim-nowhere)
-    (λ c. search aim-takes))
+    (λ c. search needs) (λ c κs. search needs) (λ c κs. search needs) (λ c κs. search needs) (λ c. search aim-busy) (λ c κs. search needs)
+    (λ c. search needs) (λ c κs. search needs) (λ c. search aim-hurt) (λ c. search needs) (λ c. search needs) (λ c κs. search needs) (λ c. search needs)
+    (λ c. search needs) (λ c. search aim-nowhere) (λ c. search aim-takes))

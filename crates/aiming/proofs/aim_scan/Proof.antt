@@ -11,10 +11,5 @@ pub aim-scan-spec : {M : Type 1} → statement M
 aim-scan-spec =
     tie.close
     (tie.spec
-    (λ c κs. search needs)
-    (λ c. search needs)
-    cast-aim-at
-    (λ c κs. search turn-aimed)
-    (λ c. search needs)
-    (λ c. search turn-found)
+    (λ c κs. search needs) (λ c. search needs) cast-aim-at (λ c κs. search turn-aimed) (λ c. search needs) (λ c. search turn-found)
     (λ c. search turn-nobody))

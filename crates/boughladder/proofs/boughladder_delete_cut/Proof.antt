@@ -8,9 +8,4 @@ pub boughladder-delete-cut-spec : {M : Type 1} → statement M
 boughladder-delete-cut-spec =
     tie.close
     (tie.spec
-    (λ c κs. search needs)
-    (λ c κs. search needs)
-    (λ c. search needs)
-    (λ c. search needs)
-    (λ c. search needs)
-    (λ c. search told-cut))
+    (λ c κs. search needs) (λ c κs. search needs) (λ c. search needs) (λ c. search needs) (λ c. search needs) (λ c. search told-cut))

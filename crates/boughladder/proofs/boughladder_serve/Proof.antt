@@ -5,5 +5,4 @@ use Rattle.boughladder.proofs.boughladder_serve.Tie as tie
 use Rattle.boughladder.proofs.Laws.{answer-small, told-whole}
 
 pub boughladder-serve-spec : {M : Type 1} → statement M
-boughladder-serve-spec =
-    tie.close (tie.spec (λ c κs. search needs) (λ c κs. search answer-small) (λ c. search needs) (λ c. search told-whole))
+boughladder-serve-spec = tie.close (tie.spec (λ c κs. search needs) (λ c κs. search answer-small) (λ c. search needs) (λ c. search told-whole))

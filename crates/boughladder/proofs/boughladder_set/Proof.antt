@@ -7,4 +7,5 @@ use Rattle.boughladder.proofs.Laws.{told-whole}
 pub boughladder-set-spec : {M : Type 1} → statement M
 boughladder-set-spec =
     tie.close
-    (tie.spec (λ c κs. search needs) (λ c κs. search needs) (λ c. search needs) (λ c. search needs) (λ c. search needs) (λ c. search told-whole))
+    (tie.spec
+    (λ c κs. search needs) (λ c κs. search needs) (λ c. search needs) (λ c. search needs) (λ c. search needs) (λ c. search told-whole))

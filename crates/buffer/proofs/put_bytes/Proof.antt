@@ -16,15 +16,5 @@ pub put-bytes-spec : {M : Type 1} → statement M
 put-bytes-spec =
     tie.close
     (tie.spec
-    Inv-loop
-    μ-loop
-    (λ c. search copy-first)
-    (λ c. search needs)
-    (λ c. search needs)
-    (λ c. search copy-room)
-    (λ c. search needs)
-    (λ c. search needs)
-    (λ c. search copy-more)
-    (λ c. search needs)
-    (λ c. search needs)
-    (λ c. search copy-done))
+    Inv-loop μ-loop (λ c. search copy-first) (λ c. search needs) (λ c. search needs) (λ c. search copy-room) (λ c. search needs) (λ c. search needs)
+    (λ c. search copy-more) (λ c. search needs) (λ c. search needs) (λ c. search copy-done))

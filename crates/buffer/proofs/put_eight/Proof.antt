@@ -40,29 +40,7 @@ pub put-eight-spec : {M : Type 1} → statement M
 put-eight-spec =
     tie.close
     (tie.spec
-    (λ c. search needs)
-    (λ c. search needs)
-    (λ c. search needs)
-    (λ c. search needs)
-    slice-write-buffer-2
-    (λ c. search needs)
-    (λ c. search needs)
-    slice-write-buffer-3
-    (λ c. search needs)
-    (λ c. search needs)
-    slice-write-buffer-4
-    (λ c. search needs)
-    (λ c. search needs)
-    slice-write-buffer-5
-    (λ c. search needs)
-    (λ c. search needs)
-    slice-write-buffer-6
-    (λ c. search needs)
-    (λ c. search needs)
-    slice-write-buffer-7
-    (λ c. search needs)
-    (λ c. search needs)
-    slice-write-buffer-8
-    (λ c. search needs)
-    same-length
-    returns)
+    (λ c. search needs) (λ c. search needs) (λ c. search needs) (λ c. search needs) slice-write-buffer-2 (λ c. search needs) (λ c. search needs)
+    slice-write-buffer-3 (λ c. search needs) (λ c. search needs) slice-write-buffer-4 (λ c. search needs) (λ c. search needs) slice-write-buffer-5
+    (λ c. search needs) (λ c. search needs) slice-write-buffer-6 (λ c. search needs) (λ c. search needs) slice-write-buffer-7 (λ c. search needs)
+    (λ c. search needs) slice-write-buffer-8 (λ c. search needs) same-length returns)

@@ -28,17 +28,5 @@ pub put-four-spec : {M : Type 1} → statement M
 put-four-spec =
     tie.close
     (tie.spec
-    (λ c. search needs)
-    (λ c. search needs)
-    (λ c. search needs)
-    (λ c. search needs)
-    slice-write-buffer-2
-    (λ c. search needs)
-    (λ c. search needs)
-    slice-write-buffer-3
-    (λ c. search needs)
-    (λ c. search needs)
-    slice-write-buffer-4
-    (λ c. search needs)
-    same-length
-    returns)
+    (λ c. search needs) (λ c. search needs) (λ c. search needs) (λ c. search needs) slice-write-buffer-2 (λ c. search needs) (λ c. search needs)
+    slice-write-buffer-3 (λ c. search needs) (λ c. search needs) slice-write-buffer-4 (λ c. search needs) same-length returns)

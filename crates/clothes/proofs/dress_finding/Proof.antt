@@ -6,4 +6,6 @@ use Rattle.clothes.proofs.dress_finding.Tie as tie
 
 pub dress-finding-spec : {M : Type 1} → statement M
 dress-finding-spec =
-    tie.close (tie.spec (λ c. search needs) (λ c. search needs) (λ c. search needs) (λ c. search finding-dressed) (λ c. search finding-dressed) (λ c. search finding-dressed))
+    tie.close
+    (tie.spec
+    (λ c. search needs) (λ c. search needs) (λ c. search needs) (λ c. search finding-dressed) (λ c. search finding-dressed) (λ c. search finding-dressed))

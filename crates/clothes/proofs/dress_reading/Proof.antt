@@ -11,14 +11,5 @@ pub dress-reading-spec : {M : Type 1} → statement M
 dress-reading-spec =
     tie.close
     (tie.spec
-    (λ c. search needs)
-    (λ c. search needs)
-    (λ c. search needs)
-    (λ c. search needs)
-    (λ c. search needs)
-    cast-t7
-    (λ c. search reading-dressed)
-    (λ c. search reading-dressed)
-    (λ c. search reading-dressed)
-    (λ c. search reading-dressed)
-    (λ c. search reading-dressed))
+    (λ c. search needs) (λ c. search needs) (λ c. search needs) (λ c. search needs) (λ c. search needs) cast-t7 (λ c. search reading-dressed)
+    (λ c. search reading-dressed) (λ c. search reading-dressed) (λ c. search reading-dressed) (λ c. search reading-dressed))

@@ -12,12 +12,5 @@ pub delete-spec : {M : Type 1} → statement M
 delete-spec =
     tie.close
     (tie.spec
-    (λ c κs. search needs)
-    (λ c. search whole-early)
-    (λ c κs. search passed-lengths)
-    removal-of-requires
-    (λ c κs. search needs)
-    (λ c. search needs)
-    (λ c. search needs)
-    (λ c. search needs)
-    (λ c. search whole-done))
+    (λ c κs. search needs) (λ c. search whole-early) (λ c κs. search passed-lengths) removal-of-requires (λ c κs. search needs) (λ c. search needs)
+    (λ c. search needs) (λ c. search needs) (λ c. search whole-done))

@@ -12,12 +12,5 @@ pub delete-cut-spec : {M : Type 1} → statement M
 delete-cut-spec =
     tie.close
     (tie.spec
-    (λ c κs. search needs)
-    (λ c. search cut-early)
-    (λ c κs. search passed-lengths)
-    removal-of-requires
-    (λ c κs. search needs)
-    (λ c. search needs)
-    (λ c. search needs)
-    (λ c. search needs)
-    (λ c. search cut-done))
+    (λ c κs. search needs) (λ c. search cut-early) (λ c κs. search passed-lengths) removal-of-requires (λ c κs. search needs) (λ c. search needs)
+    (λ c. search needs) (λ c. search needs) (λ c. search cut-done))

@@ -8,13 +8,5 @@ pub removal-of-spec : {M : Type 1} → statement M
 removal-of-spec =
     tie.close
     (tie.spec
-    (λ c. search needs)
-    (λ c. search needs)
-    (λ c. search needs)
-    (λ c κs. search needs)
-    (λ c. search needs)
-    (λ c. search needs)
-    (λ c. search removal-refused)
-    (λ c. search removal-absent)
-    (λ c. search removal-nowhere)
-    (λ c. search removal-takes))
+    (λ c. search needs) (λ c. search needs) (λ c. search needs) (λ c κs. search needs) (λ c. search needs) (λ c. search needs)
+    (λ c. search removal-refused) (λ c. search removal-absent) (λ c. search removal-nowhere) (λ c. search removal-takes))

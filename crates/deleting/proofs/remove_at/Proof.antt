@@ -8,12 +8,5 @@ pub remove-at-spec : {M : Type 1} → statement M
 remove-at-spec =
     tie.close
     (tie.spec
-    (λ c. search needs)
-    (λ c. search needs)
-    (λ c. search needs)
-    (λ c κs. search needs)
-    (λ c. search remove-refused)
-    (λ c. search needs)
-    (λ c. search needs)
-    (λ c. search needs)
-    (λ c. search remove-made))
+    (λ c. search needs) (λ c. search needs) (λ c. search needs) (λ c κs. search needs) (λ c. search remove-refused) (λ c. search needs)
+    (λ c. search needs) (λ c. search needs) (λ c. search remove-made))

@@ -8,13 +8,5 @@ pub carry-out-spec : {M : Type 1} → statement M
 carry-out-spec =
     tie.close
     (tie.spec
-    (λ c. search needs)
-    (λ c. search needs)
-    (λ c κs. search turn-ready)
-    (λ c. search needs)
-    (λ c κs. search needs)
-    (λ c. search turn-refused)
-    (λ c. search needs)
-    (λ c. search needs)
-    (λ c. search needs)
-    (λ c. search turn-taken))
+    (λ c. search needs) (λ c. search needs) (λ c κs. search turn-ready) (λ c. search needs) (λ c κs. search needs) (λ c. search turn-refused)
+    (λ c. search needs) (λ c. search needs) (λ c. search needs) (λ c. search turn-taken))

@@ -22,13 +22,5 @@ pub clear-passed-spec : {M : Type 1} → statement M
 clear-passed-spec =
     tie.close
     (tie.spec
-    Inv-loop
-    μ-loop
-    (λ c. search clear-first)
-    clear-one-requires
-    (λ c κs. search needs)
-    (λ c. search needs)
-    (λ c. search needs)
-    (λ c. search clear-next)
-    same-length
-    (λ c. search clear-last))
+    Inv-loop μ-loop (λ c. search clear-first) clear-one-requires (λ c κs. search needs) (λ c. search needs) (λ c. search needs) (λ c. search clear-next)
+    same-length (λ c. search clear-last))

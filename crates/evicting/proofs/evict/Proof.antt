@@ -7,4 +7,5 @@ use Rattle.evicting.proofs.Turning.{evict-done}
 pub evict-spec : {M : Type 1} → statement M
 evict-spec =
     tie.close
-    (tie.spec (λ c κs. search needs) (λ c κs. search needs) (λ c. search needs) (λ c. search needs) (λ c. search needs) (λ c. search evict-done))
+    (tie.spec
+    (λ c κs. search needs) (λ c κs. search needs) (λ c. search needs) (λ c. search needs) (λ c. search needs) (λ c. search evict-done))

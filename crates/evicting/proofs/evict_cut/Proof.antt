@@ -7,4 +7,5 @@ use Rattle.evicting.proofs.Turning.{evict-cut-done}
 pub evict-cut-spec : {M : Type 1} → statement M
 evict-cut-spec =
     tie.close
-    (tie.spec (λ c κs. search needs) (λ c κs. search needs) (λ c. search needs) (λ c. search needs) (λ c. search needs) (λ c. search evict-cut-done))
+    (tie.spec
+    (λ c κs. search needs) (λ c κs. search needs) (λ c. search needs) (λ c. search needs) (λ c. search needs) (λ c. search evict-cut-done))

@@ -31,4 +31,5 @@ returns c = let at = c .before .loop in sym (no-byte (at .h) (at .rest) (at .i) 
 pub hash-of-spec : {M : Type 1} → statement M
 hash-of-spec =
     tie.close
-    (tie.spec Inv-loop μ-loop loop-holds (λ c. search needs) (λ c κs. search needs) (λ c. search needs) (λ c. search needs) loop-again returns)
+    (tie.spec
+    Inv-loop μ-loop loop-holds (λ c. search needs) (λ c κs. search needs) (λ c. search needs) (λ c. search needs) loop-again returns)

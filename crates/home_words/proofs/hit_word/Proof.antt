@@ -8,11 +8,5 @@ pub hit-word-spec : {M : Type 1} → statement M
 hit-word-spec =
     tie.close
     (tie.spec
-    (λ c. search by-no-tag)
-    (λ c. search needs)
-    (λ c. search needs)
-    (λ c κs. search needs)
-    (λ c. search by-number)
-    (λ c. search by-stranger)
-    (λ c κs. search needs)
-    (λ c. search needs))
+    (λ c. search by-no-tag) (λ c. search needs) (λ c. search needs) (λ c κs. search needs) (λ c. search by-number) (λ c. search by-stranger)
+    (λ c κs. search needs) (λ c. search needs))

@@ -11,4 +11,6 @@ returns c = search alone-other
 
 pub leading-word-spec : {M : Type 1} → statement M
 leading-word-spec =
-    tie.close (tie.spec returns (λ c. search needs) (λ c. search needs) (λ c κs. search needs) (λ c. search alone-by-stranger) (λ c. search alone-by-number))
+    tie.close
+    (tie.spec
+    returns (λ c. search needs) (λ c. search needs) (λ c κs. search needs) (λ c. search alone-by-stranger) (λ c. search alone-by-number))

@@ -22,12 +22,4 @@ pub count-live-spec : {M : Type 1} → statement M
 count-live-spec =
     tie.close
     (tie.spec
-    Inv-loop
-    μ-loop
-    loop-holds
-    (λ c κs. search needs)
-    add-n
-    (λ c. search needs)
-    (λ c. search needs)
-    (λ c. search count-more)
-    (λ c. search count-done))
+    Inv-loop μ-loop loop-holds (λ c κs. search needs) add-n (λ c. search needs) (λ c. search needs) (λ c. search count-more) (λ c. search count-done))

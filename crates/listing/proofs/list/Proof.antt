@@ -18,11 +18,5 @@ pub list-spec : {M : Type 1} → statement M
 list-spec =
     tie.close
     (tie.spec
-    (λ c κs. search needs)
-    (λ c. search list-wrong)
-    (λ c κs. search needs)
-    mul-if2
-    (λ c. search list-short)
-    put-places-requires
-    (λ c. search needs)
+    (λ c κs. search needs) (λ c. search list-wrong) (λ c κs. search needs) mul-if2 (λ c. search list-short) put-places-requires (λ c. search needs)
     (λ c. search list-written))

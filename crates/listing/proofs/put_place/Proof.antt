@@ -17,18 +17,6 @@ pub put-place-spec : {M : Type 1} → statement M
 put-place-spec =
     tie.close
     (tie.spec
-    (λ c. search needs)
-    (λ c. search needs)
-    (λ c. search needs)
-    (λ c. search put-vacant)
-    (λ c. search needs)
-    (λ c. search needs)
-    (λ c. search needs)
-    (λ c. search needs)
-    (λ c. search needs)
-    (λ c. search needs)
-    (λ c κs. search (room-animal, room-live))
-    put-four-requires
-    put-eight-requires-2
-    (λ c. search needs)
-    (λ c. search put-live))
+    (λ c. search needs) (λ c. search needs) (λ c. search needs) (λ c. search put-vacant) (λ c. search needs) (λ c. search needs) (λ c. search needs)
+    (λ c. search needs) (λ c. search needs) (λ c. search needs) (λ c κs. search (room-animal, room-live)) put-four-requires put-eight-requires-2
+    (λ c. search needs) (λ c. search put-live))

@@ -18,12 +18,5 @@ pub put-places-spec : {M : Type 1} → statement M
 put-places-spec =
     tie.close
     (tie.spec
-    Inv-loop
-    μ-loop
-    (λ c. search putting-first)
-    put-place-requires
-    (λ c. search needs)
-    (λ c. search needs)
-    (λ c. search putting-more)
-    (λ c. search needs)
+    Inv-loop μ-loop (λ c. search putting-first) put-place-requires (λ c. search needs) (λ c. search needs) (λ c. search putting-more) (λ c. search needs)
     (λ c. search putting-done))

@@ -7,7 +7,4 @@ pub homes-in-spec : {M : Type 1} → statement M
 homes-in-spec =
     tie.close
     (tie.spec
-    (λ c. record { fits = search buckets-fit })
-    (λ c. record { fits = search counters-fit })
-    (λ c κs. search size-is)
-    (λ c. search homes-lie))
+    (λ c. record { fits = search buckets-fit }) (λ c. record { fits = search counters-fit }) (λ c κs. search size-is) (λ c. search homes-lie))

@@ -12,14 +12,5 @@ pub look-up-spec : {M : Type 1} → statement M
 look-up-spec =
     tie.close
     (tie.spec
-    (λ c κs. search needs)
-    (λ c κs. search needs)
-    (λ c. search look-busy)
-    (λ c κs. search needs)
-    cast-m
-    (λ c κs. search needs)
-    (λ c. search look-damaged)
-    (λ c κs. search needs)
-    (λ c κs. search needs)
-    (λ c. search look-absent)
-    (λ c. search look-at))
+    (λ c κs. search needs) (λ c κs. search needs) (λ c. search look-busy) (λ c κs. search needs) cast-m (λ c κs. search needs) (λ c. search look-damaged)
+    (λ c κs. search needs) (λ c κs. search needs) (λ c. search look-absent) (λ c. search look-at))

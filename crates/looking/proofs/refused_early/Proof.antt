@@ -6,4 +6,6 @@ use Rattle.looking.proofs.refused_early.Tie as tie
 
 pub refused-early-spec : {M : Type 1} → statement M
 refused-early-spec =
-    tie.close (tie.spec (λ c κs. search needs) (λ c. search early-one) (λ c. search early-two) (λ c. search early-three) (λ c. search early-none))
+    tie.close
+    (tie.spec
+    (λ c κs. search needs) (λ c. search early-one) (λ c. search early-two) (λ c. search early-three) (λ c. search early-none))

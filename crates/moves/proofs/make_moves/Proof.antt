@@ -69,15 +69,5 @@ pub make-moves-spec : {M : Type 1} → statement M
 make-moves-spec =
     tie.close
     (tie.spec
-    Inv-loop
-    μ-loop
-    loop-holds
-    (λ c. search needs)
-    (λ c. search needs)
-    move-one-requires
-    (λ c. search needs)
-    (λ c. search needs)
-    loop-again
-    same-length
-    same-length-2
-    returns)
+    Inv-loop μ-loop loop-holds (λ c. search needs) (λ c. search needs) move-one-requires (λ c. search needs) (λ c. search needs) loop-again same-length
+    same-length-2 returns)

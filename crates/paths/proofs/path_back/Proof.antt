@@ -33,21 +33,6 @@ pub path-back-spec : {M : Type 1} → statement M
 path-back-spec =
     tie.close
     (tie.spec
-    Inv-back
-    μ-back
-    (λ c. search needs)
-    (λ c. search needs)
-    (λ c κs. search needs)
-    (λ c. search back-begins)
-    (λ c. search needs)
-    (λ c. search needs)
-    (λ c κs. search needs)
-    mul-t18
-    shared-slice-read-t23
-    (λ c. search needs)
-    (λ c. search needs)
-    (λ c. search needs)
-    (λ c. search needs)
-    (λ c. search back-goes)
-    (λ c. search needs)
-    returns)
+    Inv-back μ-back (λ c. search needs) (λ c. search needs) (λ c κs. search needs) (λ c. search back-begins) (λ c. search needs) (λ c. search needs)
+    (λ c κs. search needs) mul-t18 shared-slice-read-t23 (λ c. search needs) (λ c. search needs) (λ c. search needs) (λ c. search needs)
+    (λ c. search back-goes) (λ c. search needs) returns)

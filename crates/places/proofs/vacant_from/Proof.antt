@@ -15,14 +15,5 @@ pub vacant-from-spec : {M : Type 1} → statement M
 vacant-from-spec =
     tie.close
     (tie.spec
-    Inv-loop
-    μ-loop
-    (λ c. search none-vacant-yet)
-    (λ c. search needs)
-    (λ c. search needs)
-    (λ c. search needs)
-    (λ c. search by-vacant)
-    (λ c. search needs)
-    (λ c. search needs)
-    (λ c. search by-live)
-    (λ c. search by-none-vacant))
+    Inv-loop μ-loop (λ c. search none-vacant-yet) (λ c. search needs) (λ c. search needs) (λ c. search needs) (λ c. search by-vacant) (λ c. search needs)
+    (λ c. search needs) (λ c. search by-live) (λ c. search by-none-vacant))

@@ -13,16 +13,5 @@ pub find-spec : {M : Type 1} → statement M
 find-spec =
     tie.close
     (tie.spec
-    (λ c κs. search needs)
-    (λ c. search find-early)
-    (λ c κs. search passed-lengths)
-    (λ c κs. search needs)
-    (λ c. search find-busy)
-    (λ c κs. search needs)
-    cast-m
-    (λ c κs. search needs)
-    (λ c. search find-damaged)
-    (λ c κs. search needs)
-    (λ c. search find-absent)
-    (λ c. search needs)
-    (λ c. search find-held))
+    (λ c κs. search needs) (λ c. search find-early) (λ c κs. search passed-lengths) (λ c κs. search needs) (λ c. search find-busy) (λ c κs. search needs)
+    cast-m (λ c κs. search needs) (λ c. search find-damaged) (λ c κs. search needs) (λ c. search find-absent) (λ c. search needs) (λ c. search find-held))

@@ -9,4 +9,5 @@ returns c = rw (c .before .get642 .ensures, c .before .before .get64 .ensures) a
 pub judged-at-spec : {M : Type 1} → statement M
 judged-at-spec =
     tie.close
-    (tie.spec (λ c. search needs) (λ c. search needs) (λ c κs. search needs) (λ c. search needs) (λ c κs. search needs) (λ c κs. search needs) returns)
+    (tie.spec
+    (λ c. search needs) (λ c. search needs) (λ c κs. search needs) (λ c. search needs) (λ c κs. search needs) (λ c κs. search needs) returns)

@@ -7,4 +7,6 @@ use Rattle.reading.proofs.Serving.{marked-not, marked-outside, marked-i
 pub mark-recent-spec : {M : Type 1} → statement M
 mark-recent-spec =
     tie.close
-    (tie.spec (λ c. search needs) (λ c. search needs) (λ c. search marked-not) (λ c. search marked-outside) (λ c. search needs) (λ c. search needs) (λ c. search needs) (λ c. search marked-in))
+    (tie.spec
+    (λ c. search needs) (λ c. search needs) (λ c. search marked-not) (λ c. search marked-outside) (λ c. search needs) (λ c. search needs)
+    (λ c. search needs) (λ c. search marked-in))

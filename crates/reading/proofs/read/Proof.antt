@@ -8,4 +8,5 @@ use Rattle.looking.proofs.Early.{early-passed}
 pub read-spec : {M : Type 1} → statement M
 read-spec =
     tie.close
-    (tie.spec (λ c κs. search needs) (λ c κs. search needs) (λ c. search read-early) (λ c κs. search early-passed) (λ c. search needs))
+    (tie.spec
+    (λ c κs. search needs) (λ c κs. search needs) (λ c. search read-early) (λ c κs. search early-passed) (λ c. search needs))

@@ -12,15 +12,5 @@ pub read-good-spec : {M : Type 1} → statement M
 read-good-spec =
     tie.close
     (tie.spec
-    (λ c κs. search needs)
-    (λ c κs. search needs)
-    (λ c. search read-busy)
-    (λ c κs. search needs)
-    cast-m
-    (λ c κs. search needs)
-    (λ c. search read-damaged)
-    (λ c κs. search needs)
-    (λ c κs. search needs)
-    (λ c. search read-absent)
-    (λ c κs. search needs)
-    (λ c. search read-held))
+    (λ c κs. search needs) (λ c κs. search needs) (λ c. search read-busy) (λ c κs. search needs) cast-m (λ c κs. search needs) (λ c. search read-damaged)
+    (λ c κs. search needs) (λ c κs. search needs) (λ c. search read-absent) (λ c κs. search needs) (λ c. search read-held))

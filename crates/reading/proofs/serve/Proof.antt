@@ -9,9 +9,4 @@ pub serve-spec : {M : Type 1} → statement M
 serve-spec =
     tie.close
     (tie.spec
-    (λ c κs. search needs)
-    (λ c κs. search needs)
-    (λ c. search serve-early)
-    (λ c κs. search early-passed)
-    (λ c. search needs)
-    (λ c. search needs))
+    (λ c κs. search needs) (λ c κs. search needs) (λ c. search serve-early) (λ c κs. search early-passed) (λ c. search needs) (λ c. search needs))

@@ -28,21 +28,6 @@ pub serve-good-spec : {M : Type 1} → statement M
 serve-good-spec =
     tie.close
     (tie.spec
-    (λ c κs. search needs)
-    (λ c κs. search needs)
-    (λ c. search needs)
-    (λ c. search serve-busy)
-    (λ c κs. search needs)
-    cast-m
-    (λ c κs. search needs)
-    (λ c. search needs)
-    (λ c. search serve-damaged)
-    (λ c κs. search needs)
-    (λ c κs. search needs)
-    (λ c. search needs)
-    (λ c. search serve-absent)
-    (λ c κs. search needs)
-    (λ c κs. search needs)
-    (λ c κs. search needs)
-    (λ c. search needs)
-    returns-4)
+    (λ c κs. search needs) (λ c κs. search needs) (λ c. search needs) (λ c. search serve-busy) (λ c κs. search needs) cast-m (λ c κs. search needs)
+    (λ c. search needs) (λ c. search serve-damaged) (λ c κs. search needs) (λ c κs. search needs) (λ c. search needs) (λ c. search serve-absent)
+    (λ c κs. search needs) (λ c κs. search needs) (λ c κs. search needs) (λ c. search needs) returns-4)

@@ -10,14 +10,6 @@ pub put-evicting-spec : {M : Type 1} → statement M
 put-evicting-spec =
     tie.close
     (tie.spec
-    (λ c. search needs)
-    (λ c. search needs)
-    (λ c. search needs)
-    (λ c κs. search needs)
-    (λ c. search needs)
-    (λ c. search needs)
-    (λ c κs. search needs)
-    (λ c. search needs)
-    (λ c. (search (as-beside (λ s h. text (said-evicting s h))), search needs))
-    (λ c. search needs)
+    (λ c. search needs) (λ c. search needs) (λ c. search needs) (λ c κs. search needs) (λ c. search needs) (λ c. search needs) (λ c κs. search needs)
+    (λ c. search needs) (λ c. (search (as-beside (λ s h. text (said-evicting s h))), search needs)) (λ c. search needs)
     (λ c. (search (as-beside (λ s h. text (said-evicting s h))), search needs)))

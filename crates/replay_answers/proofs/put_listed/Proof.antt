@@ -11,11 +11,5 @@ pub put-listed-spec : {M : Type 1} → statement M
 put-listed-spec =
     tie.close
     (tie.spec
-    (λ c. search needs)
-    (λ c. search needs)
-    (λ c κs. search needs)
-    (λ c. search needs)
-    (λ c. front _ _ (omega arith))
-    (λ c κs. (search (le-of-eq, front), search needs))
-    (λ c. search needs)
-    (λ c. (search put-both, search needs)))
+    (λ c. search needs) (λ c. search needs) (λ c κs. search needs) (λ c. search needs) (λ c. front _ _ (omega arith))
+    (λ c κs. (search (le-of-eq, front), search needs)) (λ c. search needs) (λ c. (search put-both, search needs)))

@@ -10,12 +10,6 @@ pub put-listing-spec : {M : Type 1} → statement M
 put-listing-spec =
     tie.close
     (tie.spec
-    (λ c. search needs)
-    (λ c κs. (search counted-in, search needs))
-    (λ c. search needs)
-    (λ c. search needs)
-    (λ c κs. search needs)
-    (λ c. search needs)
-    (λ c. (search (as-beside (λ s b. text (said-listing s b))), search needs))
-    (λ c. search needs)
+    (λ c. search needs) (λ c κs. (search counted-in, search needs)) (λ c. search needs) (λ c. search needs) (λ c κs. search needs) (λ c. search needs)
+    (λ c. (search (as-beside (λ s b. text (said-listing s b))), search needs)) (λ c. search needs)
     (λ c. (search (as-beside (λ s b. text (said-listing s b))), search needs)))

@@ -9,11 +9,5 @@ pub put-poked-spec : {M : Type 1} → statement M
 put-poked-spec =
     tie.close
     (tie.spec
-    (λ c. search needs)
-    (λ c κs. search needs)
-    (λ c. search needs)
-    (λ c. (search (as-known poke-told), search (short, needs)))
-    (λ c. search needs)
-    (λ c κs. search needs)
-    (λ c. search needs)
-    (λ c. (search (as-known poke-told), search (short, needs))))
+    (λ c. search needs) (λ c κs. search needs) (λ c. search needs) (λ c. (search (as-known poke-told), search (short, needs))) (λ c. search needs)
+    (λ c κs. search needs) (λ c. search needs) (λ c. (search (as-known poke-told), search (short, needs))))

@@ -10,14 +10,6 @@ pub put-setting-spec : {M : Type 1} → statement M
 put-setting-spec =
     tie.close
     (tie.spec
-    (λ c. search needs)
-    (λ c. search needs)
-    (λ c. search needs)
-    (λ c κs. search needs)
-    (λ c. search needs)
-    (λ c. search needs)
-    (λ c κs. search needs)
-    (λ c. search needs)
-    (λ c. (search (as-known (λ s. text (said-setting s))), search needs))
-    (λ c. search needs)
+    (λ c. search needs) (λ c. search needs) (λ c. search needs) (λ c κs. search needs) (λ c. search needs) (λ c. search needs) (λ c κs. search needs)
+    (λ c. search needs) (λ c. (search (as-known (λ s. text (said-setting s))), search needs)) (λ c. search needs)
     (λ c. (search (as-known (λ s. text (said-setting s))), search needs)))

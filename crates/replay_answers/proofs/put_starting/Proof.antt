@@ -10,13 +10,6 @@ pub put-starting-spec : {M : Type 1} → statement M
 put-starting-spec =
     tie.close
     (tie.spec
-    (λ c. search needs)
-    (λ c. search needs)
-    (λ c κs. search needs)
-    (λ c. search needs)
-    (λ c. search needs)
-    (λ c κs. search needs)
-    (λ c. search needs)
-    (λ c. (search (as-known (λ s. text (said-starting s))), search (short, needs)))
-    (λ c. search needs)
+    (λ c. search needs) (λ c. search needs) (λ c κs. search needs) (λ c. search needs) (λ c. search needs) (λ c κs. search needs) (λ c. search needs)
+    (λ c. (search (as-known (λ s. text (said-starting s))), search (short, needs))) (λ c. search needs)
     (λ c. (search (as-known (λ s. text (said-starting s))), search needs)))

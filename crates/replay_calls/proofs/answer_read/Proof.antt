@@ -5,10 +5,4 @@ use Rattle.replay_calls.proofs.answer_read.Statement.{statement}
 use Rattle.replay_calls.proofs.answer_read.Tie as tie
 
 pub answer-read-spec : {M : Type 1} → statement M
-answer-read-spec =
-    tie.close
-    (tie.spec
-    (λ c κs. search needs)
-    (λ c κs. search needs)
-    (λ c. search needs)
-    (λ c. search told-as))
+answer-read-spec = tie.close (tie.spec (λ c κs. search needs) (λ c κs. search needs) (λ c. search needs) (λ c. search told-as))

@@ -8,9 +8,4 @@ pub length-without-return-spec : {M : Type 1} → statement M
 length-without-return-spec =
     tie.close
     (tie.spec
-    (λ c. search return-nothing)
-    (λ c. search needs)
-    (λ c. search needs)
-    (λ c. search needs)
-    (λ c. search return-found)
-    (λ c. search return-none))
+    (λ c. search return-nothing) (λ c. search needs) (λ c. search needs) (λ c. search needs) (λ c. search return-found) (λ c. search return-none))

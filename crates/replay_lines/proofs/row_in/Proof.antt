@@ -16,20 +16,6 @@ pub row-in-spec : {M : Type 1} → statement M
 row-in-spec =
     tie.close
     (tie.spec
-    Inv-loop
-    μ-loop
-    (λ c. search try-first)
-    (λ c κs. search needs)
-    (λ c κs. search needs)
-    (λ c. search needs)
-    (λ c. search needs)
-    (λ c. search needs)
-    (λ c κs. search needs)
-    (λ c. search needs)
-    (λ c. search try-found)
-    (λ c. search needs)
-    (λ c. search needs)
-    (λ c. search try-more)
-    (λ c κs. search needs)
-    (λ c. search needs)
-    (λ c. search try-end))
+    Inv-loop μ-loop (λ c. search try-first) (λ c κs. search needs) (λ c κs. search needs) (λ c. search needs) (λ c. search needs) (λ c. search needs)
+    (λ c κs. search needs) (λ c. search needs) (λ c. search try-found) (λ c. search needs) (λ c. search needs) (λ c. search try-more)
+    (λ c κs. search needs) (λ c. search needs) (λ c. search try-end))

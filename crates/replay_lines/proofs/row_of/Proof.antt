@@ -15,10 +15,4 @@ pub row-of-spec : {M : Type 1} → statement M
 row-of-spec =
     tie.close
     (tie.spec
-    (λ c κs. search needs)
-    (λ c. search cut-length)
-    (λ c κs. search needs)
-    (λ c. search cut-length)
-    (λ c κs. search needs)
-    (λ c. search needs)
-    returns)
+    (λ c κs. search needs) (λ c. search cut-length) (λ c κs. search needs) (λ c. search cut-length) (λ c κs. search needs) (λ c. search needs) returns)

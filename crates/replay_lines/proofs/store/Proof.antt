@@ -5,11 +5,4 @@ use Rattle.replay_lines.proofs.store.Statement.{statement}
 use Rattle.replay_lines.proofs.store.Tie as tie
 
 pub store-spec : {M : Type 1} → statement M
-store-spec =
-    tie.close
-    (tie.spec
-    (λ c. search needs)
-    (λ c. search needs)
-    (λ c. search needs)
-    (λ c. search needs)
-    (λ c. simp (set-out, c .if1 .left)))
+store-spec = tie.close (tie.spec (λ c. search needs) (λ c. search needs) (λ c. search needs) (λ c. search needs) (λ c. simp (set-out, c .if1 .left)))

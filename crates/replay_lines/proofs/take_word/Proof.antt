@@ -8,14 +8,5 @@ pub take-word-spec : {M : Type 1} → statement M
 take-word-spec =
     tie.close
     (tie.spec
-    (λ c. search needs)
-    (λ c κs. search needs)
-    (λ c κs. search needs)
-    (λ c. search take-number)
-    (λ c. search needs)
-    (λ c κs. search needs)
-    (λ c κs. search needs)
-    (λ c. search take-permission)
-    (λ c κs. search needs)
-    (λ c. search take-itself)
-    (λ c. search take-other))
+    (λ c. search needs) (λ c κs. search needs) (λ c κs. search needs) (λ c. search take-number) (λ c. search needs) (λ c κs. search needs)
+    (λ c κs. search needs) (λ c. search take-permission) (λ c κs. search needs) (λ c. search take-itself) (λ c. search take-other))

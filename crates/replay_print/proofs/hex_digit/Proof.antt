@@ -14,10 +14,4 @@ unfolding hex-digit
 returns-2 c = rw (le-ltb _ _ (c .if1 .left))
 
 pub hex-digit-spec : {M : Type 1} → statement M
-hex-digit-spec =
-    tie.close
-    (tie.spec
-    (λ c. search needs)
-    returns
-    (λ c. search needs)
-    returns-2)
+hex-digit-spec = tie.close (tie.spec (λ c. search needs) returns (λ c. search needs) returns-2)

@@ -11,11 +11,5 @@ pub put-hex-byte-spec : {M : Type 1} → statement M
 put-hex-byte-spec =
     tie.close
     (tie.spec
-    (λ c κs. search needs)
-    (λ c. search needs)
-    (λ c κs. search needs)
-    (λ c. search needs)
-    (λ c. search hex-room)
-    (λ c. search needs)
-    (λ c. search needs)
+    (λ c κs. search needs) (λ c. search needs) (λ c κs. search needs) (λ c. search needs) (λ c. search hex-room) (λ c. search needs) (λ c. search needs)
     returns)

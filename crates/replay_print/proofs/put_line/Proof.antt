@@ -5,11 +5,4 @@ use Rattle.replay_print.proofs.put_line.Statement.{statement}
 use Rattle.replay_print.proofs.put_line.Tie as tie
 
 pub put-line-spec : {M : Type 1} → statement M
-put-line-spec =
-    tie.close
-    (tie.spec
-    (λ c κs. search needs)
-    (λ c. search needs)
-    (λ c κs. search needs)
-    (λ c. search needs)
-    (λ c. search put-ended))
+put-line-spec = tie.close (tie.spec (λ c κs. search needs) (λ c. search needs) (λ c κs. search needs) (λ c. search needs) (λ c. search put-ended))

@@ -19,18 +19,5 @@ pub put-numbers32-spec : {M : Type 1} → statement M
 put-numbers32-spec =
     tie.close
     (tie.spec
-    Inv-loop
-    μ-loop
-    (λ c. search tell-first)
-    (λ c. search needs)
-    (λ c. search needs)
-    (λ c. search needs)
-    (λ c κs. search needs)
-    (λ c κs. search needs)
-    (λ c. search needs)
-    (λ c. search needs)
-    (λ c. search tell-more)
-    (λ c. search needs)
-    (λ c κs. search needs)
-    (λ c. search needs)
-    returns)
+    Inv-loop μ-loop (λ c. search tell-first) (λ c. search needs) (λ c. search needs) (λ c. search needs) (λ c κs. search needs) (λ c κs. search needs)
+    (λ c. search needs) (λ c. search needs) (λ c. search tell-more) (λ c. search needs) (λ c κs. search needs) (λ c. search needs) returns)

@@ -19,15 +19,5 @@ pub put-record-spec : {M : Type 1} → statement M
 put-record-spec =
     tie.close
     (tie.spec
-    Inv-loop
-    μ-loop
-    (λ c. search digits-first)
-    (λ c. search needs)
-    (λ c κs. search needs)
-    (λ c. search needs)
-    (λ c. search needs)
-    (λ c. search digits-more)
-    (λ c. search needs)
-    (λ c κs. search needs)
-    (λ c. search needs)
-    returns)
+    Inv-loop μ-loop (λ c. search digits-first) (λ c. search needs) (λ c κs. search needs) (λ c. search needs) (λ c. search needs)
+    (λ c. search digits-more) (λ c. search needs) (λ c κs. search needs) (λ c. search needs) returns)

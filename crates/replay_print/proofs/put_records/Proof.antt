@@ -18,17 +18,5 @@ pub put-records-spec : {M : Type 1} → statement M
 put-records-spec =
     tie.close
     (tie.spec
-    Inv-loop
-    μ-loop
-    (λ c. search records-first)
-    (λ c. search needs)
-    (λ c. search needs)
-    (λ c. search needs)
-    (λ c. search needs)
-    (λ c. search needs)
-    (λ c κs. search needs)
-    (λ c. search needs)
-    (λ c. search needs)
-    (λ c. search records-more)
-    (λ c. search needs)
-    returns)
+    Inv-loop μ-loop (λ c. search records-first) (λ c. search needs) (λ c. search needs) (λ c. search needs) (λ c. search needs) (λ c. search needs)
+    (λ c κs. search needs) (λ c. search needs) (λ c. search needs) (λ c. search records-more) (λ c. search needs) returns)

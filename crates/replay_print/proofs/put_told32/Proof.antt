@@ -8,10 +8,4 @@ returns : tie.Need-returns
 returns c = (search put-behind, search needs)
 
 pub put-told32-spec : {M : Type 1} → statement M
-put-told32-spec =
-    tie.close
-    (tie.spec
-    (λ c κs. search needs)
-    (λ c κs. search needs)
-    (λ c. search needs)
-    returns)
+put-told32-spec = tie.close (tie.spec (λ c κs. search needs) (λ c κs. search needs) (λ c. search needs) returns)

@@ -8,12 +8,5 @@ pub list-line-spec : {M : Type 1} → statement M
 list-line-spec =
     tie.close
     (tie.spec
-    (λ c κs. search needs)
-    (λ c. search needs)
-    (λ c. search list-too-large)
-    (λ c. search needs)
-    (λ c. search list-bytes)
-    (λ c κs. search list-room)
-    (λ c. search needs)
-    (λ c. search needs)
-    (λ c. search list-told))
+    (λ c κs. search needs) (λ c. search needs) (λ c. search list-too-large) (λ c. search needs) (λ c. search list-bytes) (λ c κs. search list-room)
+    (λ c. search needs) (λ c. search needs) (λ c. search list-told))

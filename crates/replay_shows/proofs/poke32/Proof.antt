@@ -26,5 +26,4 @@ returns-3 : tie.Need-returns-3
 returns-3 c = search poke-made
 
 pub poke32-spec : {M : Type 1} → statement M
-poke32-spec =
-    tie.close (tie.spec returns returns-2 cast-run mul-run slice-write-run same-length returns-3)
+poke32-spec = tie.close (tie.spec returns returns-2 cast-run mul-run slice-write-run same-length returns-3)

@@ -20,5 +20,4 @@ returns : tie.Need-returns
 returns c = (search listed-text, search needs)
 
 pub put-list-spec : {M : Type 1} → statement M
-put-list-spec =
-    tie.close (tie.spec list-requires put-listing-requires same-length same-length-2 returns)
+put-list-spec = tie.close (tie.spec list-requires put-listing-requires same-length same-length-2 returns)

@@ -17,13 +17,5 @@ pub first-spec : {M : Type 1} → statement M
 first-spec =
     tie.close
     (tie.spec
-    Inv-loop
-    μ-loop
-    (λ c. seek-first (search needs))
-    (λ c. search needs)
-    (λ c κs. search needs)
-    (λ c. search seek-found)
-    (λ c. search needs)
-    (λ c. search needs)
-    (λ c. search seek-more)
-    (λ c. search seek-end))
+    Inv-loop μ-loop (λ c. seek-first (search needs)) (λ c. search needs) (λ c κs. search needs) (λ c. search seek-found) (λ c. search needs)
+    (λ c. search needs) (λ c. search seek-more) (λ c. search seek-end))

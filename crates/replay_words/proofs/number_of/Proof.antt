@@ -64,21 +64,5 @@ pub number-of-spec : {M : Type 1} → statement M
 number-of-spec =
     tie.close
     (tie.spec
-    Inv-loop
-    μ-loop
-    returns
-    loop-holds
-    shared-slice-read-b
-    returns-2
-    returns-3
-    wide-requires
-    returns-4
-    mul-if5
-    sub-if5
-    returns-5
-    mul-v
-    add-v
-    add-i
-    loop-less
-    loop-again
-    returns-6)
+    Inv-loop μ-loop returns loop-holds shared-slice-read-b returns-2 returns-3 wide-requires returns-4 mul-if5 sub-if5 returns-5 mul-v add-v add-i
+    loop-less loop-again returns-6)

@@ -33,12 +33,5 @@ pub fnv-of-spec : {M : Type 1} → statement M
 fnv-of-spec =
     tie.close
     (tie.spec
-    Inv-loop
-    μ-loop
-    (λ c. search needs)
-    (λ c. search needs)
-    (λ c κs. search needs)
-    (λ c. search needs)
-    (λ c. search needs)
-    (λ c. (search needs, search one-byte))
-    (λ c. search no-byte))
+    Inv-loop μ-loop (λ c. search needs) (λ c. search needs) (λ c κs. search needs) (λ c. search needs) (λ c. search needs)
+    (λ c. (search needs, search one-byte)) (λ c. search no-byte))

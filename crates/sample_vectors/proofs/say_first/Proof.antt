@@ -5,9 +5,4 @@ use Rattle.sample_vectors.proofs.say_first.Statement.{statement}
 use Rattle.sample_vectors.proofs.say_first.Tie as tie
 
 pub say-first-spec : {M : Type 1} → statement M
-say-first-spec =
-    tie.close
-    (tie.spec
-    (λ c. search front)
-    (λ c κs. search needs)
-    (λ c. search needs))
+say-first-spec = tie.close (tie.spec (λ c. search front) (λ c κs. search needs) (λ c. search needs))

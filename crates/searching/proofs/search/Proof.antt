@@ -6,4 +6,6 @@ use Rattle.searching.proofs.search.Tie as tie
 
 pub search-spec : {M : Type 1} → statement M
 search-spec =
-    tie.close (tie.spec (λ c κs. search needs) (λ c κs. search needs) (λ c. search needs) (λ c κs. search needs) (λ c. search stops-at-home))
+    tie.close
+    (tie.spec
+    (λ c κs. search needs) (λ c κs. search needs) (λ c. search needs) (λ c κs. search needs) (λ c. search stops-at-home))

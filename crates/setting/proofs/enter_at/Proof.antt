@@ -21,18 +21,5 @@ pub enter-at-spec : {M : Type 1} → statement M
 enter-at-spec =
     tie.close
     (tie.spec
-    (λ c. search needs)
-    (λ c. search needs)
-    (λ c. search shift-small)
-    cast-n
-    (λ c κs. search moves-ready)
-    mul-word
-    add-word
-    (λ c. search needs)
-    (λ c κs. search needs)
-    (λ c κs. search needs)
-    (λ c. search enter-refused)
-    (λ c. search needs)
-    (λ c. search needs)
-    (λ c. search needs)
-    returns-2)
+    (λ c. search needs) (λ c. search needs) (λ c. search shift-small) cast-n (λ c κs. search moves-ready) mul-word add-word (λ c. search needs)
+    (λ c κs. search needs) (λ c κs. search needs) (λ c. search enter-refused) (λ c. search needs) (λ c. search needs) (λ c. search needs) returns-2)

@@ -14,6 +14,4 @@ returns : tie.Need-returns
 returns c = does-as (c .before .before .before .before .before .before .before .before .before .before .room-for .ensures .comes) (c .before .before .before .before .before .before .enter-at .ensures four refl)
 
 pub enter-new-spec : {M : Type 1} → statement M
-enter-new-spec =
-    tie.close
-    (tie.spec (λ c κs. search needs) enter-at-requires (λ c. search needs) (λ c. search needs) (λ c. search needs) returns)
+enter-new-spec = tie.close (tie.spec (λ c κs. search needs) enter-at-requires (λ c. search needs) (λ c. search needs) (λ c. search needs) returns)

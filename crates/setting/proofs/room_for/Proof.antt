@@ -18,18 +18,6 @@ pub room-for-spec : {M : Type 1} → statement M
 room-for-spec =
     tie.close
     (tie.spec
-    cast-n
-    (λ c κs. search places-are)
-    (λ c. search needs)
-    (λ c κs. search needs)
-    (λ c. search needs)
-    cast-search
-    (λ c κs. search asked-is)
-    cast-place
-    (λ c. search needs)
-    (λ c. search needs)
-    (λ c. search needs)
-    (λ c. search room-full)
-    (λ c. search room-damaged)
-    (λ c. search room-nowhere)
+    cast-n (λ c κs. search places-are) (λ c. search needs) (λ c κs. search needs) (λ c. search needs) cast-search (λ c κs. search asked-is) cast-place
+    (λ c. search needs) (λ c. search needs) (λ c. search needs) (λ c. search room-full) (λ c. search room-damaged) (λ c. search room-nowhere)
     (λ c. search (room-there, needs)))

@@ -10,4 +10,5 @@ returns c = let s = c .before .before .before .before .before .before .before .b
 pub update-held-spec : {M : Type 1} → statement M
 update-held-spec =
     tie.close
-    (tie.spec (λ c. search needs) (λ c κs. search needs) (λ c κs. search needs) (λ c. search needs) (λ c. search needs) returns)
+    (tie.spec
+    (λ c. search needs) (λ c κs. search needs) (λ c κs. search needs) (λ c. search needs) (λ c. search needs) returns)
