@@ -277,7 +277,7 @@ fn portions(
     written
 }
 
-// The bytes that a list may fill: document 01's 20 bytes for each of 4,096 places. It says nothing of its elements, so that no proof counts them; nor do the next four.
+// The bytes that a list may fill: document 01's 20 bytes for each of 4,096 places. It says nothing of its elements, so that no proof counts them; nor does the next.
 fn record_bytes() -> [u8; 81920]
     ensures { λ r. ⌜ 81920 ≡ length r ⌝ }
 {
