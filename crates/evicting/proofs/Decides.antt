@@ -5,7 +5,7 @@ use Rattle.model.specs.Memory.{Mem}
 use Rattle.model.specs.Choice.{choose}
 use Rattle.model.specs.Answers.{Answer, is, paper, value}
 use Rattle.model.specs.Said.{said-evicting}
-use Rattle.evicting.specs.Evict.{Evicted, TurnsAs, TurnedAs}
+use Rattle.evicting.specs.Evict.{TurnsAs, TurnedAs}
 use Rattle.model.specs.declared.Evicting.{Evicting}
 use Rattle.model.specs.declared.Evicting.the-variants as answer
 use Rattle.evicting.specs.declared.Turned.{Turned}
