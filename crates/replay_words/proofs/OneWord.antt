@@ -4,7 +4,7 @@ use native.Mathlib.Numerals.{add-one}
 use native.Mathlib.Omega.{arith}
 use mathlib.Core.Path.{_≡_, refl, sym, ap, _∙_}
 use mathlib.Core.Logic.{_≢_}
-use mathlib.Core.Bool.{true, false}
+use mathlib.Core.Bool.{Bool, true, false, not}
 use mathlib.Core.Option.{none, some}
 use mathlib.Core.List.{List, [], _∷_}
 use lib.ListN.{length, getD, drop, drop-of-length-le}
@@ -55,6 +55,38 @@ module _ {w n : List ℕ} {i : ℕ} (s : Alike w n i) where
   same-end h =
       let hw : length w ≤ i = omega (arith, s .long) in
       let q : same (drop i w) (drop i n) ≡ true = rw (drop-of-length-le w hw, drop-of-length-le n h) in
+      sym q ∙ s .ahead
+
+not-not : (t : Bool) → not (not t) ≡ t
+not-not true = refl
+not-not false = refl
+
+-- the bytes of a word up to i are digits
+pub record Digits (w : List ℕ) (i : ℕ) : Type 0 where
+  pub inside : i ≤ length w
+  pub ahead : all-digits (drop i w) ≡ all-digits w
+
+pub digits-first : (w : List ℕ) → Digits w 0
+digits-first w = record { inside = omega arith; ahead = refl }
+
+module _ {w : List ℕ} {i : ℕ} (s : Digits w i) where
+  module _ {t : Bool} (h : i < length w) (g : t ≡ is-digit (getD w i 0)) where
+    pub digits-not : not t ≡ true → false ≡ all-digits w
+    unfolding all-digits
+    digits-not e =
+        let q : all-digits (drop i w) ≡ false = rw (drop-cons w i 0 h, sym g ∙ sym (not-not t) ∙ ap not e) in
+        sym q ∙ s .ahead
+
+    pub digits-more : not t ≡ false → Digits w (i + 1)
+    unfolding all-digits
+    digits-more e =
+        let q : all-digits (drop i w) ≡ all-digits (drop (i + 1) w) = rw (drop-cons w i 0 h, sym g ∙ sym (not-not t) ∙ ap not e, add-one) in
+        record { inside = omega arith; ahead = sym q ∙ s .ahead }
+
+  pub digits-end : length w ≤ i → true ≡ all-digits w
+  unfolding all-digits
+  digits-end h =
+      let q : all-digits (drop i w) ≡ true = rw (drop-of-length-le w h) in
       sym q ∙ s .ahead
 
 -- more digits make no number smaller

@@ -2,7 +2,7 @@
 ghost use mathlib.Core.Path.{_≡_};
 ghost use Prim.Native.Nat.{_<_, _≤_};
 ghost use lib.ListN.{length};
-ghost use Rattle.replay_words.specs.Words.{sought, is-end, is-comment, is-gap, is-no-gap, same, number};
+ghost use Rattle.replay_words.specs.Words.{sought, is-end, is-comment, is-gap, is-no-gap, same, is-digit, all-digits, number};
 ghost use Rattle.replay_words.specs.Cursor.{First, PieceAt, NextWord, told};
 
 // Whether a byte is one of two, or neither if they are not wanted.
@@ -106,6 +106,26 @@ pub fn is_word(word: &[u8], name: &[u8]) -> bool
     let mut i: usize = 0;
     while i < name.len() {
         if word[i] != name[i] {
+            return false;
+        }
+        i += 1;
+    }
+    true
+}
+
+fn is_digit(b: u8) -> bool
+    ensures { λ r. ⌜ r ≡ is-digit b ⌝ }
+{
+    (b'0' <= b) & (b <= b'9')
+}
+
+// Whether a word has digits only.
+pub fn all_digits(word: &[u8]) -> bool
+    ensures { λ r. ⌜ r ≡ all-digits (now (word .entry)) ⌝ }
+{
+    let mut i: usize = 0;
+    while i < word.len() {
+        if !is_digit(word[i]) {
             return false;
         }
         i += 1;
