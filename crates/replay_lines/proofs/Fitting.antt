@@ -17,7 +17,8 @@ use Rattle.replay_words.specs.declared.Number.{Number}
 use Rattle.replay_words.specs.declared.Number.the-variants as number
 use Rattle.replay_words.specs.declared.Word.{Word}
 use Rattle.replay_words.proofs.Scan.{bool}
-use Rattle.replay_lines.specs.Line.{alone, bound, both, fitting, taken}
+use Rattle.replay_lines.specs.Taking.{alone, bound, is-some, taken, taken-up-to, takes}
+use Rattle.replay_lines.specs.Line.{both, fitting}
 use Rattle.replay_lines.specs.Cursor.{Fits, stored, told}
 use Rattle.replay_lines.specs.declared.Taken.{Taken}
 use Rattle.replay_lines.specs.declared.Taken.the-variants as taken
@@ -30,25 +31,57 @@ module _ (top : ℕ) (w : List ℕ) {r : Number} (e : number-told r ≡ number t
   pub take-not : r ≡ number.Not → none ≡ alone (number top w)
   take-not q = ap (λ (x : Number). alone (number-told x)) (sym q) ∙ ap alone e
 
--- a word, in the order of the tests
-module _ (p w : List ℕ) {t₁ : Bool} (e₁ : t₁ ≡ same p (78 ∷ [])) where
-  pub take-number : {o : Option (List ℕ)} → t₁ ≡ true → o ≡ alone (number 18446744073709551615 w) → o ≡ taken p w
-  unfolding taken bound
-  take-number y q = rw (sym e₁ ∙ y) q
+-- the largest number that a word takes, in the order of the tests
+module _ (p : List ℕ) {t₁ : Bool} (e₁ : t₁ ≡ same p (78 ∷ [])) where
+  pub bound-number : t₁ ≡ true → some 18446744073709551615 ≡ bound p
+  unfolding bound
+  bound-number y = rw (sym e₁ ∙ y)
 
   module _ {t₂ : Bool} (n₁ : t₁ ≡ false) (e₂ : t₂ ≡ same p (80 ∷ [])) where
-    pub take-permission : {o : Option (List ℕ)} → t₂ ≡ true → o ≡ alone (number 4294967295 w) → o ≡ taken p w
-    unfolding taken bound
-    take-permission y q = rw (sym e₁ ∙ n₁, sym e₂ ∙ y) q
+    pub bound-permission : t₂ ≡ true → some 4294967295 ≡ bound p
+    unfolding bound
+    bound-permission y = rw (sym e₁ ∙ n₁, sym e₂ ∙ y)
 
-    module _ {t₃ : Bool} (n₂ : t₂ ≡ false) (e₃ : t₃ ≡ same p w) where
-      pub take-itself : t₃ ≡ true → some [] ≡ taken p w
-      unfolding taken bound
-      take-itself y = rw (sym e₁ ∙ n₁, sym e₂ ∙ n₂, sym e₃ ∙ y)
+    module _ {t₃ : Bool} (n₂ : t₂ ≡ false) (e₃ : t₃ ≡ same p (66 ∷ [])) where
+      pub bound-buffer : t₃ ≡ true → some 81920 ≡ bound p
+      unfolding bound
+      bound-buffer y = rw (sym e₁ ∙ n₁, sym e₂ ∙ n₂, sym e₃ ∙ y)
 
-      pub take-other : t₃ ≡ false → none ≡ taken p w
-      unfolding taken bound
-      take-other n₃ = rw (sym e₁ ∙ n₁, sym e₂ ∙ n₂, sym e₃ ∙ n₃)
+      pub bound-none : t₃ ≡ false → none ≡ bound p
+      unfolding bound
+      bound-none n₃ = rw (sym e₁ ∙ n₁, sym e₂ ∙ n₂, sym e₃ ∙ n₃)
+
+-- a name
+module _ (p w : List ℕ) {t : Bool} (e : t ≡ same p w) where
+  pub take-itself : t ≡ true → some [] ≡ taken-up-to none p w
+  take-itself y = rw (sym e ∙ y)
+
+  pub take-other : t ≡ false → none ≡ taken-up-to none p w
+  take-other n = rw (sym e ∙ n)
+
+-- a word by its bound
+module _ (p w : List ℕ) {r : Number} (e : number-told r ≡ bound p) where
+  pub take-number : {o : Option (List ℕ)} {top : ℕ} → r ≡ number.Value top → o ≡ alone (number top w) → o ≡ taken p w
+  unfolding taken
+  take-number y q = q ∙ ap (λ (b : Option ℕ). taken-up-to b p w) (sym (ap number-told y) ∙ e)
+
+  pub take-name : {o : Option (List ℕ)} → r ≡ number.Not → o ≡ taken-up-to none p w → o ≡ taken p w
+  unfolding taken
+  take-name y q = q ∙ ap (λ (b : Option ℕ). taken-up-to b p w) (sym (ap number-told y) ∙ e)
+
+-- whether a word fits
+module _ (p w : List ℕ) {t : Taken} (e : told t ≡ taken p w) where
+  pub takes-not : t ≡ taken.No → false ≡ takes p w
+  unfolding takes
+  takes-not q = ap (λ (x : Taken). is-some (told x)) (sym q) ∙ ap is-some e
+
+  pub takes-word : t ≡ taken.Word → true ≡ takes p w
+  unfolding takes
+  takes-word q = ap (λ (x : Taken). is-some (told x)) (sym q) ∙ ap is-some e
+
+  pub takes-number : {n : ℕ} → t ≡ taken.Number n → true ≡ takes p w
+  unfolding takes
+  takes-number q = ap (λ (x : Taken). is-some (told x)) (sym q) ∙ ap is-some e
 
 -- a row and a line have been read up to i and j, and n numbers are stored
 pub record Reading (row line before now : List ℕ) (i j n : ℕ) : Type 0 where

@@ -2,12 +2,12 @@
 use Prim.Native.Nat.{ℕ, _+_, _-_, _≤_}
 use native.Mathlib.Numerals.{add-one}
 use native.Mathlib.Omega.{arith}
-use mathlib.Core.Path.{_≡_, refl, sym, ap, _∙_}
+use mathlib.Core.Path.{_≡_, refl, sym, ap, ap₂, _∙_}
 use mathlib.Core.Logic.{_≢_}
 use mathlib.Core.Bool.{Bool, true, false}
 use mathlib.Core.Option.{Option, none, some}
 use mathlib.Core.List.{List, [], _∷_}
-use lib.ListN.{length, drop, drop-of-length-le, getD, length-replicate, replicate, take}
+use lib.ListN.{length, drop, drop-of-length-le, getD, length-replicate, replicate, set, take}
 use lib.Seq.{length-take-le, sets, take-length}
 use borrow.Author.Tests.{eq-eqb, ne-eqb}
 use Rattle.model.specs.Choice.{choose}
@@ -15,7 +15,8 @@ use Rattle.replay_words.specs.Words.{before, is-comment, lines, without-comment
 use Rattle.replay_words.specs.Cursor.{First, PieceAt, part}
 use Rattle.replay_words.specs.declared.Piece.{Piece}
 use Rattle.replay_words.proofs.Scan.{before-take}
-use Rattle.replay_lines.specs.Line.{Said, first-row, fitting, or-else, padded, said}
+use Rattle.replay_lines.specs.Reasons.{why-not}
+use Rattle.replay_lines.specs.Line.{Said, first-row, fitting, or-else, padded, said, said-by}
 use Rattle.replay_lines.specs.Cursor.{Fits, Follows, WithoutReturn, stored}
 
 -- the rows up to from do not fit, and they are n
@@ -23,30 +24,37 @@ pub record Trying (rows line before now : List ℕ) (from n : ℕ) : Type 0 wher
   pub inside : from ≤ length rows
   pub few : n ≤ from
   pub long : length now ≡ length before
-  pub ahead : first-row n (lines (drop from rows)) (words line) ≡ first-row 0 (lines rows) (words line)
+  pub ahead : first-row (why-not (lines rows) (words line)) n (lines (drop from rows)) (words line) ≡ said-by (lines rows) (words line)
 
 pub try-first : (rows line numbers : List ℕ) → Trying rows line numbers numbers 0 0
+unfolding said-by
 try-first rows line numbers = record { inside = omega arith; few = omega arith; long = refl; ahead = refl }
 
 module _ {rows line before now : List ℕ} {from n : ℕ} (s : Trying rows line before now from n) where
-  pub try-end : {after : List ℕ} → length rows ≤ from → after ≡ replicate (length now) 0 → Follows (first-row 0 (lines rows) (words line)) before after n
+  pub try-end : {clear after : List ℕ} {y : ℕ} → length rows ≤ from → clear ≡ replicate (length now) 0 → y ≡ why-not (lines rows) (words line)
+      → after ≡ set clear 0 y → Follows (said-by (lines rows) (words line)) before after n
   unfolding first-row lines
-  try-end h c =
-      let q : first-row 0 (lines rows) (words line) ≡ record { row = n; numbers = [] } = sym (s .ahead) ∙ rw (drop-of-length-le rows h) in
+  try-end {clear} {after} {y} h c e f =
+      let q : said-by (lines rows) (words line) ≡ record { row = n; numbers = why-not (lines rows) (words line) ∷ [] } =
+      sym (s .ahead) ∙ ap (λ (bs : List ℕ). first-row (why-not (lines rows) (words line)) n (lines bs) (words line)) (drop-of-length-le rows h) in
       record {
         same-row = sym (ap (λ (x : Said). x .row) q);
-        same-numbers = c ∙ ap (λ (k : ℕ). replicate k 0) (s .long) ∙ sym (ap (λ (x : Said). padded (length before) (x .numbers)) q);
+        same-numbers = f ∙ ap₂ (λ (l : List ℕ) (v : ℕ). set l 0 v) (c ∙ ap (λ (k : ℕ). replicate k 0) (s .long)) e
+            ∙ sym (ap (λ (x : Said). padded (length before) (x .numbers)) q);
       }
 
   module _ {p : Piece} (piece : PieceAt rows from p) where
     step : {o : Option (List ℕ)} → fitting (words (part rows from (p .end))) (words line) ≡ o
-        → first-row 0 (lines rows) (words line) ≡ or-else o n (first-row (n + 1) (lines (drop (p .next) rows)) (words line))
+        → said-by (lines rows) (words line) ≡ or-else o n (first-row (why-not (lines rows) (words line)) (n + 1) (lines (drop (p .next) rows)) (words line))
     unfolding first-row
-    step e = sym (s .ahead) ∙ rw (piece .first-line, e, add-one)
+    step {o} e =
+        sym (s .ahead)
+        ∙ ap (λ (ls : List (List ℕ)). first-row (why-not (lines rows) (words line)) n ls (words line)) (piece .first-line)
+        ∙ ap₂ (λ (x : Option (List ℕ)) (k : ℕ). or-else x n (first-row (why-not (lines rows) (words line)) k (lines (drop (p .next) rows)) (words line))) e (sym (add-one n))
 
     module _ {clear after : List ℕ} (c : clear ≡ replicate (length now) 0) where
       found : (o : Option (List ℕ)) → fitting (words (part rows from (p .end))) (words line) ≡ o → some after ≡ stored clear 0 o
-          → Follows (first-row 0 (lines rows) (words line)) before after n
+          → Follows (said-by (lines rows) (words line)) before after n
       found none q e = let z : _≡_ {A = ℕ} 0 1 = cc in absurd (omega arith)
       found (some ns) q e =
           let a : after ≡ sets clear 0 ns = cc in
@@ -71,7 +79,7 @@ module _ {rows line before now : List ℕ} {from n : ℕ} (s : Trying rows line 
         said-so : {b : Bool} → r ≡ b → choose b (some after) none ≡ stored clear 0 (fitting (words (part rows from (p .end))) (words line))
         said-so y = sym (ap (λ (t : Bool). choose t (some after) none) y) ∙ f .fits
 
-        pub try-found : r ≡ true → Follows (first-row 0 (lines rows) (words line)) before after n
+        pub try-found : r ≡ true → Follows (said-by (lines rows) (words line)) before after n
         try-found y = found (fitting (words (part rows from (p .end))) (words line)) refl (said-so y)
 
         pub try-more : r ≡ false → length after ≡ length clear → Trying rows line before after (p .next) (n + 1)
@@ -97,12 +105,12 @@ cut-length bs n h = sym (length-take-le n bs h)
 
 -- a line is the words before its comment and its line end
 pub by-line : (rows : List ℕ) {bs numbers after : List ℕ} {n m r : ℕ} → WithoutReturn bs n → First is-comment (take n bs) 0 m
-    → Follows (first-row 0 (lines rows) (words (take m (take n bs)))) numbers after r
+    → Follows (said-by (lines rows) (words (take m (take n bs)))) numbers after r
     → (r ≡ said rows bs .row) × (after ≡ padded (length numbers) (said rows bs .numbers))
 unfolding said without-comment
 by-line rows {bs} {numbers} {after} {n} {m} w c f =
     let q : m ≡ length (before is-comment (take n bs)) = omega (arith, c .first) in
     let e : take m (take n bs) ≡ without-comment (without-return bs) =
     ap (λ (k : ℕ). take k (take n bs)) q ∙ before-take is-comment (take n bs) ∙ ap (before is-comment) (w .kept) in
-    let g : first-row 0 (lines rows) (words (take m (take n bs))) ≡ said rows bs = ap (λ (l : List ℕ). first-row 0 (lines rows) (words l)) e in
+    let g : said-by (lines rows) (words (take m (take n bs))) ≡ said rows bs = ap (λ (l : List ℕ). said-by (lines rows) (words l)) e in
     (f .same-row ∙ ap (λ (x : Said). x .row) g, f .same-numbers ∙ ap (λ (x : Said). padded (length numbers) (x .numbers)) g)

@@ -8,7 +8,9 @@ use lib.ListN.{length, take}
 use lib.Seq.{sets}
 use Rattle.model.specs.Choice.{choose}
 use Rattle.replay_words.specs.Words.{without-return, words}
+use Rattle.replay_lines.specs.Reasons.{Parting}
 use Rattle.replay_lines.specs.Line.{Said, fitting, padded}
+use Rattle.replay_lines.specs.declared.Parting.{Parting as Parted}
 use Rattle.replay_lines.specs.declared.Taken.{Taken}
 use Rattle.replay_lines.specs.declared.Taken.the-variants as taken
 
@@ -26,6 +28,11 @@ stored l i (some ns) = some (sets l i ns)
 -- whether a line fits a row; then its numbers are stored
 pub record Fits (row line before after : List ℕ) (r : Bool) : Type 0 where
   pub fits : choose r (some after) none ≡ stored before 0 (fitting (words row) (words line))
+
+-- how far, and why no further
+pub record Parts (a : Parting) (r : Parted) : Type 0 where
+  pub far : r .far ≡ a .far
+  pub why : r .why ≡ a .why
 
 -- the row that is said, and its numbers with zeros behind them
 pub record Follows (s : Said) (before after : List ℕ) (r : ℕ) : Type 0 where

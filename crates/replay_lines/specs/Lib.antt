@@ -1,2 +1,4 @@
+pub mod Taking
+pub mod Reasons
 pub mod Line
 pub mod Cursor

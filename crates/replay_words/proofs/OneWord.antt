@@ -57,7 +57,7 @@ module _ {w n : List ℕ} {i : ℕ} (s : Alike w n i) where
       let q : same (drop i w) (drop i n) ≡ true = rw (drop-of-length-le w hw, drop-of-length-le n h) in
       sym q ∙ s .ahead
 
-not-not : (t : Bool) → not (not t) ≡ t
+pub not-not : (t : Bool) → not (not t) ≡ t
 not-not true = refl
 not-not false = refl
 

@@ -18,4 +18,4 @@ row-in-spec =
     (tie.spec
     Inv-loop μ-loop (λ c. search try-first) (λ c κs. search needs) (λ c κs. search needs) (λ c. search needs) (λ c. search needs) (λ c. search needs)
     (λ c κs. search needs) (λ c. search needs) (λ c. search try-found) (λ c. search needs) (λ c. search needs) (λ c. search try-more)
-    (λ c κs. search needs) (λ c. search needs) (λ c. search try-end))
+    (λ c κs. search needs) (λ c κs. search needs) (λ c κs. search needs) (λ c. search needs) (λ c. search try-end))

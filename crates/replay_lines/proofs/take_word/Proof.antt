@@ -1,5 +1,5 @@
 -- `replay_lines::take_word` meets its contract. Assumes nothing.
-use Rattle.replay_lines.proofs.Fitting.{take-number, take-permission, take-itself, take-other}
+use Rattle.replay_lines.proofs.Fitting.{take-number, take-name}
 use borrow.Author.Needs.{needs}
 use Rattle.replay_lines.proofs.take_word.Statement.{statement}
 use Rattle.replay_lines.proofs.take_word.Tie as tie
@@ -8,5 +8,5 @@ pub take-word-spec : {M : Type 1} → statement M
 take-word-spec =
     tie.close
     (tie.spec
-    (λ c. search needs) (λ c κs. search needs) (λ c κs. search needs) (λ c. search take-number) (λ c. search needs) (λ c κs. search needs)
-    (λ c κs. search needs) (λ c. search take-permission) (λ c κs. search needs) (λ c. search take-itself) (λ c. search take-other))
+    (λ c κs. search needs) (λ c. search needs) (λ c κs. search needs) (λ c. search needs) (λ c κs. search needs) (λ c. search take-number)
+    (λ c. search take-name))
