@@ -6,7 +6,7 @@ use Rattle.model.specs.Memory.{mem}
 use Rattle.model.specs.Answers.{refused, absent, fresh, old, ahead, stored, deleted, evicted, started, listed}
 use Rattle.replay_print.specs.Text.{bytes}
 use Rattle.replay_print.specs.Print.{decimal-of, digits, hex-digit, hex-of, hexes, numbered, record-lines, told}
-use Rattle.replay_answers.specs.Text.{dump, not-understood, poke-told, text}
+use Rattle.replay_answers.specs.Text.{dump, not-understood, poke-told, reason, text}
 
 pub lines :
     (text (refused 10) ≡ bytes "refused 10\n")
@@ -20,9 +20,12 @@ pub lines :
     × (text started ≡ bytes "fresh\n")
     × (text (listed 1 (1 ∷ 0 ∷ 0 ∷ 0 ∷ 0 ∷ 0 ∷ 0 ∷ 0 ∷ 175 ∷ 0 ∷ 0 ∷ 0 ∷ 2 ∷ 0 ∷ 0 ∷ 0 ∷ 0 ∷ 0 ∷ 0 ∷ 16 ∷ []))
     ≡ bytes "listed 1\n0100000000000000af0000000200000000000010\n")
-    × (not-understood 12 ≡ bytes "line 12: not understood\n")
+    × (not-understood 12 0 ≡ bytes "line 12: not understood: unknown word\n")
+    × (not-understood 1 1 ≡ bytes "line 1: not understood: too few numbers\n")
+    × (not-understood 1 2 ≡ bytes "line 1: not understood: too many numbers\n")
+    × (not-understood 1 3 ≡ bytes "line 1: not understood: number too large\n")
     × (dump (mem (65536 ∷ 0 ∷ []) (2 ∷ []) (7 ∷ 5 ∷ 2 ∷ 1 ∷ [])) ≡ bytes "slots 65536 0\ncounters 2\nitems 7 5 2 1\n")
     × (poke-told true ≡ bytes "poked\n")
     × (poke-told false ≡ bytes "no such word\n")
-unfolding told numbered decimal-of digits record-lines hexes hex-of hex-digit
-lines = (refl, refl, refl, refl, refl, refl, refl, refl, refl, refl, refl, refl, refl, refl)
+unfolding told numbered decimal-of digits record-lines hexes hex-of hex-digit reason
+lines = (refl, refl, refl, refl, refl, refl, refl, refl, refl, refl, refl, refl, refl, refl, refl, refl, refl)

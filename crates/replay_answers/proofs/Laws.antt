@@ -2,9 +2,11 @@
 use Prim.Native.Nat.{ℕ, _+_, _*_, _≤_}
 use native.Mathlib.Omega.{arith}
 use mathlib.Core.Path.{_≡_, sym}
+use mathlib.Core.Logic.{_≢_}
 use mathlib.Core.List.{List}
 use lib.ListN.{length, take}
 use lib.Seq.{length-take-le}
+use borrow.Author.Tests.{ne-eqb}
 use Rattle.model.specs.Memory.{Mem}
 use Rattle.model.specs.declared.Listing.{Listing}
 use Rattle.model.specs.declared.Listing.the-variants.{Listed}
@@ -12,7 +14,7 @@ use Rattle.buffer.specs.Put.{Put}
 use Rattle.buffer.proofs.Putting.{put-both}
 use Rattle.replay_print.specs.Text.{bytes}
 use Rattle.replay_print.specs.Print.{line, numbered, told}
-use Rattle.replay_answers.specs.Text.{Counted, dump, not-understood}
+use Rattle.replay_answers.specs.Text.{Counted, dump, not-understood, reason}
 
 -- what is known is told as itself
 pub as-known : {A : Type 0} (f : A → List ℕ) {said known : A} {at r : ℕ} {before after : List ℕ} → said ≡ known → Put (f known) at before after r
@@ -25,13 +27,31 @@ as-beside f b = as-known (λ s. f s b)
 
 module _ {at r : ℕ} {before after : List ℕ} where
   -- a line of words is short
-  pub short : (words : List ℕ) → Put (line words) at before after r → length (line words) ≤ 384 → r ≤ at + 384
-  short words p h = omega (arith, p .next)
+  pub short : (k : ℕ) (words : List ℕ) → Put (line words) at before after r → length (line words) ≤ k → r ≤ at + k
+  short k words p h = omega (arith, p .next)
 
-  pub put-line-number : {middle : List ℕ} {s : ℕ} (n : ℕ) → Put (numbered (bytes "line") n) at before middle s
-      → Put (line (bytes ": not understood")) s middle after r → Put (not-understood n) at before after r
+  pub put-line-number : {first second : List ℕ} {s t : ℕ} (n y : ℕ) → Put (numbered (bytes "line") n) at before first s
+      → Put (bytes ": not understood: ") s first second t → Put (line (reason y)) t second after r → Put (not-understood n y) at before after r
   unfolding numbered
-  put-line-number n p q = put-both p q
+  put-line-number n y p q l = put-both (put-both p q) l
+
+  -- the reasons, in the order of the tests
+  module _ (y : ℕ) where
+    pub reason-word : Put (line (bytes "unknown word")) at before after r → y ≡ 0 → Put (line (reason y)) at before after r
+    unfolding reason
+    reason-word p e = rw e p
+
+    pub reason-few : Put (line (bytes "too few numbers")) at before after r → y ≡ 1 → Put (line (reason y)) at before after r
+    unfolding reason
+    reason-few p e = rw e p
+
+    pub reason-many : Put (line (bytes "too many numbers")) at before after r → y ≡ 2 → Put (line (reason y)) at before after r
+    unfolding reason
+    reason-many p e = rw e p
+
+    pub reason-large : Put (line (bytes "number too large")) at before after r → y ≢ 0 → y ≢ 1 → y ≢ 2 → Put (line (reason y)) at before after r
+    unfolding reason
+    reason-large p z o t = rw (ne-eqb y 0 z, ne-eqb y 1 o, ne-eqb y 2 t) p
 
 -- the three runs of a dump
 pub put-runs : {at r s t : ℕ} {before middle next after : List ℕ} (m : Mem) → Put (told (bytes "slots") (m .slots)) at before middle r

@@ -3,6 +3,8 @@ use Prim.Native.Nat.{ℕ, _*_, _≤_}
 use mathlib.Core.Bool.{Bool, true, false}
 use mathlib.Core.List.{List, [], _∷_, _++_}
 use lib.ListN.{length}
+use lib.Dec.{eqb}
+use Rattle.model.specs.Choice.{choose}
 use Rattle.model.specs.Memory.{Mem}
 use Rattle.model.specs.Answers.{Answer, refused, absent, fresh, old, ahead, stored, deleted, evicted, started, listed, at-place}
 use Rattle.model.specs.declared.Listing.{Listing}
@@ -29,9 +31,15 @@ abbrev pub Counted : Listing → List ℕ → Type 0
 Counted (list.Listed n) bs = 20 * n ≤ length bs
 Counted (list.Refused n) bs = Unit {0}
 
--- the answer to line n if it says nothing that the language has
-abbrev pub not-understood : ℕ → List ℕ
-not-understood n = bytes "line " ++ decimal-of n ++ bytes ": not understood\n"
+-- why a line says nothing that the language has
+unfoldable pub reason : ℕ → List ℕ
+reason y =
+    choose (eqb y 0) (bytes "unknown word")
+    (choose (eqb y 1) (bytes "too few numbers") (choose (eqb y 2) (bytes "too many numbers") (bytes "number too large")))
+
+-- the answer to such a line, the n-th
+abbrev pub not-understood : ℕ → ℕ → List ℕ
+not-understood n y = bytes "line " ++ decimal-of n ++ bytes ": not understood: " ++ line (reason y)
 
 -- every word of the three runs
 abbrev pub dump : Mem → List ℕ

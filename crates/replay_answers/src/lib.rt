@@ -5,7 +5,8 @@ ghost use Rattle.buffer.specs.Put.{Put};
 ghost use Rattle.model.specs.Memory.{mem};
 ghost use Rattle.model.specs.Answers.{listed, refused};
 ghost use Rattle.model.specs.Said.{said-reading, said-setting, said-deleting, said-evicting, said-listing, said-starting};
-ghost use Rattle.replay_answers.specs.Text.{text, Counted, not-understood, dump, poke-told};
+ghost use Rattle.replay_answers.specs.Text.{text, Counted, reason, not-understood, dump, poke-told};
+ghost use Rattle.replay_print.specs.Print.{line};
 use model::Deleting;
 use model::Evicting;
 use model::Listing;
@@ -113,12 +114,25 @@ pub fn put_listing(buffer: &mut [u8], at: usize, said: Listing, records: &[u8]) 
     }
 }
 
-pub fn put_not_understood(buffer: &mut [u8], at: usize, line: u64) -> usize
-    requires { ⌜ at + 384 ≤ length (now buffer) ⌝ }
-    ensures { λ r. ⌜ Put (not-understood line) at (now (buffer .entry)) (now (buffer .exit)) r × (r ≤ at + 384) ⌝ }
+fn put_reason(buffer: &mut [u8], at: usize, why: u64) -> usize
+    requires { ⌜ at + 20 ≤ length (now buffer) ⌝ }
+    ensures { λ r. ⌜ Put (line (reason why)) at (now (buffer .entry)) (now (buffer .exit)) r × (r ≤ at + 20) ⌝ }
 {
-    let behind = replay_print::put_numbered(buffer, at, b"line", line);
-    replay_print::put_line(buffer, behind, b": not understood")
+    match why {
+        0 => replay_print::put_line(buffer, at, b"unknown word"),
+        1 => replay_print::put_line(buffer, at, b"too few numbers"),
+        2 => replay_print::put_line(buffer, at, b"too many numbers"),
+        _ => replay_print::put_line(buffer, at, b"number too large"),
+    }
+}
+
+pub fn put_not_understood(buffer: &mut [u8], at: usize, line: u64, why: u64) -> usize
+    requires { ⌜ at + 384 ≤ length (now buffer) ⌝ }
+    ensures { λ r. ⌜ Put (not-understood line why) at (now (buffer .entry)) (now (buffer .exit)) r × (r ≤ at + 384) ⌝ }
+{
+    let behind_number = replay_print::put_numbered(buffer, at, b"line", line);
+    let behind = buffer::put_bytes(buffer, behind_number, b": not understood: ");
+    put_reason(buffer, behind, why)
 }
 
 // Every word of the three runs.
