@@ -79,8 +79,9 @@ static int number_of(Word word, uint64_t most, uint64_t *number) {
     uint64_t n = 0;
     for (size_t i = 0; i < word.length; i++) {
         uint64_t digit = (uint64_t)(unsigned char)word.at[i] - '0';
-        int fits = i < 19 || (n <= UINT64_MAX / 10 && 10 * n <= UINT64_MAX - digit); /* 19 digits always fit */
-        if (digit > 9 || !fits) return misunderstood(digits_only(word) ? "number too large" : "unknown word");
+        if (digit > 9) return misunderstood("unknown word");
+        if (i >= 19 && (n > UINT64_MAX / 10 || 10 * n > UINT64_MAX - digit)) /* 19 digits always fit */
+            return misunderstood(digits_only(word) ? "number too large" : "unknown word");
         n = 10 * n + digit;
     }
     *number = n;
