@@ -68,7 +68,8 @@ static const char *const edges[] = {
     "340282366920938463463374607431768211456", "9223372036854775807", "9223372036854775808", "4294967294", "4294967295",
     "4294967296", "0", "1", "00", "65536", "10080", "10081", "81919", "81920", "81921", "8192", "8196", "16384", "1024",
     "1025", "4096", "4100", "-0", "-1", "+1", "1.", "1,024", "0x10", "1e3", "1_0", "'1'", "standing", "set", "\v1", "1\f",
-    "\xc2\xa0", "\r", "1\r", "\\", "/", ":", "9:",
+    "\xc2\xa0", "\r", "1\r", "\\", "/", ":", "9:", "\xef\xbb\xbf", "standig", "evict", "slots",
+    "99999999999999999999x", "x99999999999999999999",
 };
 
 static void put(const char *text) {
@@ -179,7 +180,10 @@ static void a_call(void) {
 
 static void a_line(void) {
     used = 0;
+    if (one_in(100)) word("cut"), number(below(24)); /* before any call, or alone */
     if (!one_in(60)) a_call();
+    if (one_in(40)) used = below(used + 1); /* it ends early */
+    if (one_in(100)) number(a_minute()); /* a word too many */
     if (one_in(300)) put_many(" \t0a"[below(4)], a_length());
     if (one_in(30)) put(one_in(2) ? " # set 1 1 1" : "#");
     if (one_in(600)) put_many('#', a_length());
@@ -192,6 +196,7 @@ static void a_line(void) {
 /* The first lines have no table. The last one shows every word; its line end may be missing, or half of it. */
 static void the_edges(uint64_t seed, uint64_t count) {
     static const char *const ends[] = {"\n", "", "\r\n", "\r"};
+    if (seed % 3 == 0) fputs("\xef\xbb\xbf", stdout); /* the byte order mark */
     for (uint64_t made = 1; made < count; made++)
         if (made == 40) puts("fresh 16 4 20");
         else a_line();

@@ -1,6 +1,6 @@
 /*
  * replayed.c: the replay program once more, in plain C over the anchor, to compare with the proved one.
- * It was written from docs/replay-format.md and writes the same bytes. Use: replayed [FILE].
+ * It was written from docs/replay-format.md: the same bytes, the same status. Use: replayed [--echo] [FILE].
  */
 #include "anchor.h"
 
@@ -16,6 +16,8 @@
 
 /* The longest answer is a dump of the largest table: 11 characters for a 32-bit word with its space, 21 for a 64-bit one. */
 #define ANSWER_MOST (64 + 11 * (SLOTS_MOST + COUNTERS_MOST) + 21 * ITEMS_MOST)
+#define ECHO_WORD 20 /* no word of a call is longer, leading zeros aside */
+#define ECHO_MOST (32 + WORDS * (ECHO_WORD + 1))
 
 typedef struct {
     const char *at;
@@ -27,6 +29,8 @@ static uint64_t items[ITEMS_MOST], hand;
 static size_t slots_length, counters_length, items_length; /* 0 until the first fresh */
 static uint8_t buffer[BUFFER_MOST];
 static char file[FILE_MOST + 1], answers[4 * ANSWER_MOST], *out = answers;
+static const char *why; /* the last line that was not understood: why */
+static int echo, status;
 
 #define TABLE slots, slots_length, counters, counters_length, items, items_length
 #define TELL(text) tell(text, sizeof(text) - 1)
@@ -60,24 +64,44 @@ static inline int is(Word word, const char *name) {
     return word.length == strlen(name) && memcmp(word.at, name, strlen(name)) == 0;
 }
 
-static int number_of(Word word, uint64_t *number) {
-    uint64_t n = 0;
-    for (size_t i = 0; i < word.length; i++) {
-        uint64_t digit = (uint64_t)(unsigned char)word.at[i] - '0';
-        if (digit > 9) return 0;
-        if (i >= 19 && (n > UINT64_MAX / 10 || 10 * n > UINT64_MAX - digit)) return 0; /* 19 digits always fit */
-        n = 10 * n + digit;
-    }
-    *number = n;
+static int misunderstood(const char *reason) {
+    why = reason;
+    return 0;
+}
+
+static int digits_only(Word word) {
+    for (size_t i = 0; i < word.length; i++)
+        if (word.at[i] < '0' || word.at[i] > '9') return 0;
     return 1;
 }
 
-/* Each of the calls below gets the words behind its name, and gives 0 where they are not understood. */
+static int number_of(Word word, uint64_t most, uint64_t *number) {
+    uint64_t n = 0;
+    for (size_t i = 0; i < word.length; i++) {
+        uint64_t digit = (uint64_t)(unsigned char)word.at[i] - '0';
+        if (digit > 9) return misunderstood("unknown word");
+        if (i >= 19 && (n > UINT64_MAX / 10 || 10 * n > UINT64_MAX - digit)) /* 19 digits always fit */
+            return misunderstood(digits_only(word) ? "number too large" : "unknown word");
+        n = 10 * n + digit;
+    }
+    *number = n;
+    return n <= most || misunderstood("number too large");
+}
+
+/* Each of the calls below gets the words behind its name, and gives 0 where they are not understood. The words are read
+   from left to right, and the first that no form of the call takes tells why. */
+static int next_number(const Word *words, size_t count, size_t i, uint64_t most, uint64_t *number) {
+    return i < count ? number_of(words[i], most, number) : misunderstood("too few numbers");
+}
+
+static int ends_at(const Word *words, size_t count, size_t i) {
+    return i >= count || misunderstood(digits_only(words[i]) ? "too many numbers" : "unknown word");
+}
+
 static int numbers_of(const Word *words, size_t count, size_t wanted, uint64_t *numbers) {
-    if (count != wanted) return 0;
-    for (size_t i = 0; i < count; i++)
-        if (!number_of(words[i], numbers + i)) return 0;
-    return 1;
+    for (size_t i = 0; i < wanted; i++)
+        if (!next_number(words, count, i, UINT64_MAX, numbers + i)) return 0;
+    return ends_at(words, count, wanted);
 }
 
 static int fresh(const Word *words, size_t count) {
@@ -116,8 +140,10 @@ static int read_or_serve(const Word *words, size_t count, int serve) {
 /* Set, delete and evict: k is NULL for the whole call, else how many stores are made. */
 static int set(const Word *words, size_t count, const uint64_t *k) {
     uint64_t n[3];
-    uint32_t standing = count == 4 && is(words[3], "standing");
-    if (!numbers_of(words, count - standing, 3, n) || n[1] > UINT32_MAX) return 0;
+    for (size_t i = 0; i < 3; i++)
+        if (!next_number(words, count, i, i == 1 ? UINT32_MAX : UINT64_MAX, n + i)) return 0;
+    uint32_t standing = count > 3 && is(words[3], "standing");
+    if (!ends_at(words, count, 3 + standing)) return 0;
     BoughladderSetting s = k ? anchor_set_cut(TABLE, n[0], (uint32_t)n[1], n[2], standing, *k)
                              : anchor_set(TABLE, n[0], (uint32_t)n[1], n[2], standing);
     if (tell_refusal(s.refusal)) return 1;
@@ -134,8 +160,8 @@ static int delete(const Word *words, size_t count, const uint64_t *k) {
     return 1;
 }
 
-static int evict(size_t count, const uint64_t *k) {
-    if (count != 0) return 0;
+static int evict(const Word *words, size_t count, const uint64_t *k) {
+    if (!ends_at(words, count, 0)) return 0;
     BoughladderEvicting e = k ? anchor_evict_cut(TABLE, hand, *k) : anchor_evict(TABLE, hand);
     hand = e.hand;
     if (tell_refusal(e.refusal)) return 1;
@@ -149,12 +175,13 @@ static int evict(size_t count, const uint64_t *k) {
 static int write_call(const Word *words, size_t count, const uint64_t *k) {
     if (is(words[0], "set")) return set(words + 1, count - 1, k);
     if (is(words[0], "delete")) return delete(words + 1, count - 1, k);
-    return is(words[0], "evict") && evict(count - 1, k);
+    if (is(words[0], "evict")) return evict(words + 1, count - 1, k);
+    return misunderstood("unknown word");
 }
 
 static int list(const Word *words, size_t count) {
     uint64_t length;
-    if (!numbers_of(words, count, 1, &length) || length > BUFFER_MOST) return 0;
+    if (!next_number(words, count, 0, BUFFER_MOST, &length) || !ends_at(words, count, 1)) return 0;
     BoughladderListing l = anchor_list(TABLE, buffer, length);
     if (tell_refusal(l.refusal)) return 1;
     TELL("listed");
@@ -169,24 +196,25 @@ static int list(const Word *words, size_t count) {
 
 static int poke(const Word *words, size_t count) {
     uint64_t n[2];
-    if (count != 3 || !numbers_of(words + 1, 2, 2, n)) return 0;
-    int narrow = n[1] <= UINT32_MAX, poked = 1;
-    if (is(words[0], "slots")) {
+    if (count == 0) return misunderstood("too few numbers");
+    int to_slots = is(words[0], "slots"), to_counters = is(words[0], "counters");
+    if (!to_slots && !to_counters && !is(words[0], "items")) return misunderstood("unknown word");
+    if (!numbers_of(words + 1, count - 1, 2, n)) return 0;
+    int narrow = n[1] <= UINT32_MAX, poked;
+    if (to_slots) {
         if ((poked = n[0] < slots_length && narrow)) slots[n[0]] = (uint32_t)n[1];
-    } else if (is(words[0], "counters")) {
+    } else if (to_counters) {
         if ((poked = n[0] < counters_length && narrow)) counters[n[0]] = (uint32_t)n[1];
-    } else if (is(words[0], "items")) {
-        if ((poked = n[0] < items_length)) items[n[0]] = n[1];
     } else {
-        return 0;
+        if ((poked = n[0] < items_length)) items[n[0]] = n[1];
     }
     if (poked) TELL("poked");
     else TELL("no such word");
     return 1;
 }
 
-static int dump(size_t count) {
-    if (count != 0) return 0;
+static int dump(const Word *words, size_t count) {
+    if (!ends_at(words, count, 0)) return 0;
     TELL("slots");
     for (size_t i = 0; i < slots_length; i++) tell_next(slots[i]);
     TELL("\ncounters");
@@ -196,21 +224,57 @@ static int dump(size_t count) {
     return 1;
 }
 
-static int answer(const Word *words, size_t count) {
+static int set_hand(const Word *words, size_t count) {
+    uint64_t set;
+    if (!numbers_of(words, count, 1, &set)) return 0;
+    hand = set;
+    TELL("hand");
+    return 1;
+}
+
+static int cut(const Word *words, size_t count) {
     uint64_t k;
+    if (!next_number(words, count, 0, UINT64_MAX, &k)) return 0;
+    return count > 1 ? write_call(words + 1, count - 1, &k) : misunderstood("too few numbers");
+}
+
+static int answer(const Word *words, size_t count) {
     if (is(words[0], "serve")) return read_or_serve(words + 1, count - 1, 1);
     if (is(words[0], "read")) return read_or_serve(words + 1, count - 1, 0);
-    if (is(words[0], "cut")) return count > 2 && number_of(words[1], &k) && write_call(words + 2, count - 2, &k);
+    if (is(words[0], "cut")) return cut(words + 1, count - 1);
     if (is(words[0], "fresh")) return fresh(words + 1, count - 1);
     if (is(words[0], "list")) return list(words + 1, count - 1);
     if (is(words[0], "poke")) return poke(words + 1, count - 1);
-    if (is(words[0], "dump")) return dump(count - 1);
-    if (is(words[0], "hand")) {
-        if (!numbers_of(words + 1, count - 1, 1, &hand)) return 0;
-        TELL("hand");
-        return 1;
-    }
+    if (is(words[0], "dump")) return dump(words + 1, count - 1);
+    if (is(words[0], "hand")) return set_hand(words + 1, count - 1);
     return write_call(words, count, NULL);
+}
+
+/* The line's number and its call. Of a line that will not be understood it may be anything, but not long. */
+static void tell_call(uint64_t number, const Word *words, size_t count) {
+    tell_number(number);
+    TELL(":");
+    for (size_t i = 0; i < count; i++) {
+        Word word = words[i];
+        while (word.length > 1 && *word.at == '0') word.at++, word.length--;
+        *out++ = ' ';
+        tell(word.at, word.length < ECHO_WORD ? word.length : ECHO_WORD);
+    }
+    TELL(" -> ");
+}
+
+static void tell_line(uint64_t number, const Word *words, size_t count) {
+    char *start = out;
+    if (echo) tell_call(number, words, count);
+    if (!answer(words, count)) {
+        out = start;
+        status = 2;
+        TELL("line");
+        tell_next(number);
+        TELL(": not understood: ");
+        tell(why, strlen(why));
+    }
+    *out++ = '\n';
 }
 
 /* Digits and letters are all above '#', so that one comparison is enough for them. */
@@ -242,13 +306,8 @@ static int replay(const char *at, const char *end) {
         if (stop > at && stop[-1] == '\r') stop--; /* docs/DECISIONS.md: of a last line without LF, too */
         size_t count = split(at, stop, words);
         if (count > 0) {
-            if (!answer(words, count)) {
-                TELL("line");
-                tell_next(number);
-                TELL(": not understood");
-            }
-            *out++ = '\n';
-            if (out > answers + sizeof answers - ANSWER_MOST && !hand_out()) return 0;
+            tell_line(number, words, count);
+            if (out > answers + sizeof answers - ECHO_MOST - ANSWER_MOST && !hand_out()) return 0;
         }
         at = feed ? feed + 1 : end;
     }
@@ -256,15 +315,26 @@ static int replay(const char *at, const char *end) {
 }
 
 int main(int arguments, char **argument) {
-    FILE *from = arguments < 2 ? stdin : fopen(argument[1], "rb");
+    echo = arguments > 1 && strcmp(argument[1], "--echo") == 0;
+    const char *name = arguments > 1 + echo ? argument[1 + echo] : "-";
+    if (arguments > 2 + echo || strncmp(name, "--", 2) == 0) {
+        fputs("usage: replayed [--echo] [FILE]\n", stderr);
+        return 1;
+    }
+    FILE *from = strcmp(name, "-") == 0 ? stdin : fopen(name, "rb");
     size_t length = from ? fread(file, 1, sizeof file, from) : 0;
     if (!from || ferror(from)) {
-        perror(arguments < 2 ? "replayed" : argument[1]);
+        perror(name);
         return 1;
     }
     if (length > FILE_MOST) {
         fprintf(stderr, "replayed: more than %d bytes, nothing was replayed\n", FILE_MOST);
         return 1;
     }
-    return replay(file, file + length) ? 0 : 1;
+    size_t mark = length >= 3 && memcmp(file, "\xEF\xBB\xBF", 3) == 0 ? 3 : 0; /* the byte order mark */
+    if (!replay(file + mark, file + length)) {
+        perror("replayed: the answers could not be written");
+        return 1;
+    }
+    return status;
 }

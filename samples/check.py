@@ -1,10 +1,11 @@
 #!/usr/bin/env python3
-"""A second, plain implementation of document 01 and of the replay language.
+"""A second, plain implementation of the order and of the replay language.
 
-    python3 samples/check.py FILE      (or the calls on standard input)
+    python3 samples/check.py [--echo] [FILE]      (no FILE, or -: standard input)
 
-It prints the answers that `./replay FILE` must print. It was written from the
-two documents only, not from the Rattle code, so that the two can disagree.
+It prints the answers that `./replay` must print, and ends with its status. It
+was written from the order and docs/replay-format.md only, not from the Rattle
+code, so that the two can disagree.
 Every call first works out its answer and the list of its stores without
 touching the table; then the first k stores are made. So the cut form and the
 whole call are one and the same text here.
@@ -14,6 +15,7 @@ import sys
 TOP = 2**64 - 1                   # the standing mark; also the largest number
 SLOTS_MAX, COUNTERS_MAX, ITEMS_MAX = 8192, 1024, 4096     # what replay holds
 BUFFER_MAX = 81920
+FILE_MAX = 2 * 2**20
 
 
 # ---- From an animal to its buckets ---------------------------------------
@@ -64,7 +66,7 @@ class Table:
             else:
                 getattr(self, run)[index] = word
 
-    # -- small words of the document
+    # -- small words of the order
 
     def other(self, tag, bucket):
         return bucket ^ spread(tag, self.n)
@@ -89,7 +91,7 @@ class Table:
     def live(self):
         return [p for p in range(self.m) if self.items[4 * p] != 0]
 
-    # -- the refusals, in the document's turn
+    # -- the refusals, in the order's turn
 
     def test_1(self):
         if not good_shape(len(self.slots), len(self.counters), len(self.items)):
@@ -244,118 +246,167 @@ class Table:
 
 # ---- The replay language ---------------------------------------------------
 
+# Every form of a line, in the page's order: N is a number, P a permission, B the
+# length of a buffer, any other word stands for itself.
+FORMS = [form.split() for form in (
+    'fresh N N N', 'set N P N', 'set N P N standing', 'read N N N', 'serve N N N',
+    'delete N', 'evict', 'hand N', 'cut N set N P N', 'cut N set N P N standing',
+    'cut N delete N', 'cut N evict', 'list B', 'poke slots N N',
+    'poke counters N N', 'poke items N N', 'dump', '')]
+MOST = {'N': TOP, 'P': 2**32 - 1, 'B': BUFFER_MAX}
+
+
 class NotUnderstood(Exception):
-    pass
+    """A line that is no call: why."""
 
 
-def numbers(words, count):
-    if len(words) != count:
-        raise NotUnderstood
-    if any(c not in b'0123456789' for w in words for c in w):
-        raise NotUnderstood
-    words = [w.lstrip(b'0') or b'0' for w in words]
-    if any(len(w) > 20 or int(w) > TOP for w in words):
-        raise NotUnderstood
-    return [int(w) for w in words]
+def digits_only(word):
+    return all(c in b'0123456789' for c in word)
+
+
+def meant(wanted, word):
+    """The word as the form takes it, a number or a text; None where it doesn't."""
+    if wanted not in MOST:
+        return wanted if word == wanted.encode() else None
+    if not digits_only(word):
+        return None
+    digits = word.lstrip(b'0') or b'0'
+    fits = len(digits) <= 20 and int(digits) <= MOST[wanted]
+    return int(digits) if fits else None
+
+
+def agreement(form, words):
+    """The words in which the form and the line agree, from the first on."""
+    call = []
+    for wanted, word in zip(form, words):
+        value = meant(wanted, word)
+        if value is None:
+            break
+        call.append(value)
+    return call
+
+
+def understood(words):
+    """The line's call, or why it is none."""
+    agreed = [len(agreement(form, words)) for form in FORMS]
+    most = max(agreed)
+    for form, count in zip(FORMS, agreed):
+        if count == len(form) == len(words):
+            return agreement(form, words)
+    nearest = FORMS[agreed.index(most)]
+    if most == len(words):
+        raise NotUnderstood('too few numbers')
+    if digits_only(words[most]):
+        if most == len(nearest):
+            raise NotUnderstood('too many numbers')
+        if nearest[most] in MOST:
+            raise NotUnderstood('number too large')
+    raise NotUnderstood('unknown word')
 
 
 class Replay:
     def __init__(self):
         self.table, self.hand = Table(), 0
 
-    def line(self, words):
-        name, rest, t = words[0], words[1:], self.table
-        if name == b'cut':
-            if len(rest) < 2 or rest[1] not in (b'set', b'delete', b'evict'):
-                raise NotUnderstood
-            return self.stores(rest[1], rest[2:], numbers(rest[:1], 1)[0])
-        if name in (b'set', b'delete', b'evict'):
+    def answer(self, call):
+        name, rest, t = call[0], call[1:], self.table
+        if name == 'cut':
+            return self.stores(rest[1], rest[2:], rest[0])
+        if name in ('set', 'delete', 'evict'):
             return self.stores(name, rest, TOP)
-        if name in (b'read', b'serve'):
-            answer, stores = t.read(*numbers(rest, 3), serve=name == b'serve')
+        if name in ('read', 'serve'):
+            answer, stores = t.read(*rest, serve=name == 'serve')
             t.make(stores, 1)
             return answer
-        if name == b'fresh':
-            s, c, i = numbers(rest, 3)
+        if name == 'fresh':
+            s, c, i = rest
             if s > SLOTS_MAX or c > COUNTERS_MAX or i > ITEMS_MAX \
                     or not good_shape(s, c, i):
                 raise Refused(1)
             self.table, self.hand = Table(s, c, i), 0
             return 'fresh'
-        if name == b'hand':
-            self.hand = numbers(rest, 1)[0]
+        if name == 'hand':
+            self.hand = rest[0]
             return 'hand'
-        if name == b'list':
-            length = numbers(rest, 1)[0]
-            if length > BUFFER_MAX:
-                raise NotUnderstood
-            return t.list(length)
-        if name == b'poke':
-            runs = {b'slots': (t.slots, 2**32), b'counters': (t.counters, 2**32),
-                    b'items': (t.items, 2**64)}
-            if not rest or rest[0] not in runs:
-                raise NotUnderstood
-            run, above = runs[rest[0]]
-            index, word = numbers(rest[1:], 2)
+        if name == 'list':
+            return t.list(rest[0])
+        if name == 'poke':
+            run, index, word = getattr(t, rest[0]), rest[1], rest[2]
+            above = 2**64 if rest[0] == 'items' else 2**32
             if index >= len(run) or word >= above:
                 return 'no such word'
             run[index] = word
             return 'poked'
-        if name == b'dump' and not rest:
-            return '\n'.join(' '.join([run] + [str(w) for w in getattr(t, run)])
-                             for run in ('slots', 'counters', 'items'))
-        raise NotUnderstood
+        assert name == 'dump'
+        return '\n'.join(' '.join([run] + [str(w) for w in getattr(t, run)])
+                         for run in ('slots', 'counters', 'items'))
 
     def stores(self, name, rest, k):
         """Set, delete or evict, of which the first k stores are made."""
         t = self.table
-        if name == b'set':
-            standing = rest[3:] == [b'standing']
-            animal, permission, now = numbers(rest[:3] if standing else rest, 3)
-            if permission >= 2**32:
-                raise NotUnderstood
-            answer, stores = t.set(animal, permission, now, standing)
-        elif name == b'delete':
-            answer, stores = t.delete(*numbers(rest, 1))
+        if name == 'set':
+            answer, stores = t.set(*rest[:3], standing=len(rest) == 4)
+        elif name == 'delete':
+            answer, stores = t.delete(*rest)
         else:
-            numbers(rest, 0)
             answer, stores, self.hand = t.evict(self.hand)
         t.make(stores, k)
         return answer
 
 
-def replay(data):
-    """The answers, one string for each call."""
+def words_of(line):
+    if line.endswith(b'\r'):
+        line = line[:-1]                     # CR LF, or a CR that ends the file: docs/DECISIONS.md
+    words = line.split(b'#')[0].replace(b'\t', b' ').split(b' ')
+    return [w for w in words if w]
+
+
+def replay(data, echo=False):
+    """For each call what is printed, and whether it was understood."""
     r = Replay()
-    lines = data.split(b'\n')
-    for number, line in enumerate(lines, 1):
-        if line.endswith(b'\r'):
-            line = line[:-1]                     # CR LF, or a CR that ends the file: docs/DECISIONS.md
-        words = line.split(b'#')[0].replace(b'\t', b' ').split(b' ')
-        words = [w for w in words if w]
+    if data.startswith(b'\xef\xbb\xbf'):
+        data = data[3:]                      # the byte order mark
+    for number, line in enumerate(data.split(b'\n'), 1):
+        words = words_of(line)
         if not words:
             continue
         try:
-            yield r.line(words)
+            call = understood(words)
+        except NotUnderstood as why:
+            yield f'line {number}: not understood: {why}', False
+            continue
+        try:
+            answer = r.answer(call)
         except Refused as refusal:
-            yield f'refused {refusal}'
-        except NotUnderstood:
-            yield f'line {number}: not understood'
+            answer = f'refused {refusal}'
+        before = f'{number}: {" ".join(map(str, call))} -> ' if echo else ''
+        yield before + answer, True
 
 
 def main():
-    if len(sys.argv) > 2:
-        sys.exit('usage: check.py [FILE]')
+    """The status: 0 if every line was understood, else 2; 1 if nothing was replayed."""
+    arguments = sys.argv[1:]
+    echo = arguments[:1] == ['--echo']
+    files = arguments[echo:] or ['-']
+    if len(files) > 1 or files[0].startswith('--'):
+        sys.exit('usage: check.py [--echo] [FILE]')
     try:
-        if len(sys.argv) == 2:
-            with open(sys.argv[1], 'rb') as f:
-                data = f.read()
-        else:
-            data = sys.stdin.buffer.read()
+        with open(0 if files[0] == '-' else files[0], 'rb') as f:
+            data = f.read()
     except OSError as e:
-        sys.exit(f'check.py: cannot read {sys.argv[1]}: {e.strerror}')
-    for answer in replay(data):
-        print(answer)
+        sys.exit(f'check.py: cannot read {files[0]}: {e.strerror}')
+    if len(data) > FILE_MAX:
+        sys.exit(f'check.py: {files[0]} has more than {FILE_MAX} bytes')
+    status = 0
+    try:
+        for answer, good in replay(data, echo):
+            print(answer)
+            status = status if good else 2
+        sys.stdout.flush()
+    except OSError as e:
+        sys.stdout = None                    # what could not be written is not tried again at the end
+        sys.exit(f'check.py: cannot write the answers: {e.strerror}')
+    sys.exit(status)
 
 
 if __name__ == '__main__':
