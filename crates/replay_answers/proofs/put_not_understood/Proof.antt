@@ -8,5 +8,5 @@ pub put-not-understood-spec : {M : Type 1} → statement M
 put-not-understood-spec =
     tie.close
     (tie.spec
-    (λ c. search needs) (λ c κs. search needs) (λ c. search needs) (λ c κs. search needs) (λ c. search needs)
+    (λ c. search needs) (λ c κs. search needs) (λ c. search needs) (λ c κs. search needs) (λ c κs. search needs) (λ c. search needs)
     (λ c. (search put-line-number, search needs)))

@@ -9,6 +9,6 @@ put-reason-spec =
     tie.close
     (tie.spec
     (λ c. search needs) (λ c κs. search needs) (λ c. search needs) (λ c κs. search needs) (λ c. search needs) (λ c κs. search needs)
-    (λ c. search needs) (λ c κs. search needs) (λ c. search needs) (λ c. (search reason-word, search short)) (λ c. search needs)
-    (λ c. (search reason-few, search short)) (λ c. search needs) (λ c. (search reason-many, search short)) (λ c. search needs)
-    (λ c. (search reason-large, search short)))
+    (λ c. search needs) (λ c κs. search needs) (λ c. search needs) (λ c. (search reason-word, search (short, needs))) (λ c. search needs)
+    (λ c. (search reason-few, search (short, needs))) (λ c. search needs) (λ c. (search reason-many, search (short, needs))) (λ c. search needs)
+    (λ c. (search reason-large, search (short, needs))))
