@@ -1,5 +1,5 @@
 -- What each line means: the table of the replay program's language. Assumes nothing.
-use Prim.Native.Nat.{ℕ, zero, suc, _/_, _%_, _^_}
+use Prim.Native.Nat.{ℕ, zero, suc, _/_, _%_, _^_, min}
 use Prim.Native.String.{String}
 use mathlib.Core.Bool.{Bool, true, false, _&&_}
 use mathlib.Core.List.{List, [], _∷_}
@@ -55,9 +55,9 @@ starts s v i w =
 unfoldable pub hands : ℕ → World → Reply
 hands h w = reply (line (bytes "hand")) (w .memory) h
 
--- the list into a buffer of that size; line n is not understood if the program has none so large
-unfoldable pub lists : ℕ → ℕ → World → Reply
-lists n size w = choose (leb size 81920) (asks (write-list size) w) (says (not-understood n) w)
+-- the list into a buffer of that size, which a B keeps to the program's own
+unfoldable pub lists : ℕ → World → Reply
+lists size w = asks (write-list (min size 81920)) w
 
 -- a poke of one of the runs
 unfoldable pub pokes-slots : ℕ → ℕ → World → Reply
@@ -75,45 +75,45 @@ pokes-items i x w =
     reply (poke-told (can-poke 18446744073709551615 i x (w .memory .items)))
     (mem (w .memory .slots) (w .memory .counters) (poked 18446744073709551615 i x (w .memory .items))) (w .hand)
 
--- a row: what a line says, and what it means, by its number in the text and the numbers in it
+-- a row: what a line says, and what it means, by the numbers in it
 pub record Row : Type 0 where
   pub says : String
-  pub means : ℕ → (ℕ → ℕ) → World → Reply
+  pub means : (ℕ → ℕ) → World → Reply
 
-abbrev pub row : String → (ℕ → (ℕ → ℕ) → World → Reply) → Row
+abbrev pub row : String → ((ℕ → ℕ) → World → Reply) → Row
 row s f = record { says = s; means = f }
 
 -- a P is below 2^32, so the remainder is the number itself
 abbrev pub permission : ℕ → ℕ
 permission p = p % 2 ^ 32
 
--- the language: N a number, P a permission. The first row that fits is taken, so the calls of a gate's day stand first
+-- the language: N a number, P a permission, B a number of bytes. The first row that fits is taken, so the calls of a gate's day stand first
 abbrev pub rows : List Row
 rows =
-    row "serve N N N" (λ n x. calls (serve (x 0) (x 1) (x 2)))
-    ∷ row "read N N N" (λ n x. asks (read (x 0) (x 1) (x 2)))
-    ∷ row "set N P N" (λ n x. calls (set-animal (grant (x 0) (permission (x 1)) (x 2) false)))
-    ∷ row "set N P N standing" (λ n x. calls (set-animal (grant (x 0) (permission (x 1)) (x 2) true)))
-    ∷ row "delete N" (λ n x. calls (delete (x 0)))
-    ∷ row "evict" (λ n x. turns)
-    ∷ row "cut N set N P N" (λ n x. cuts (x 0) (set-animal (grant (x 1) (permission (x 2)) (x 3) false)))
-    ∷ row "cut N set N P N standing" (λ n x. cuts (x 0) (set-animal (grant (x 1) (permission (x 2)) (x 3) true)))
-    ∷ row "cut N delete N" (λ n x. cuts (x 0) (delete (x 1)))
-    ∷ row "cut N evict" (λ n x. cut-turns (x 0))
-    ∷ row "hand N" (λ n x. hands (x 0))
-    ∷ row "list N" (λ n x. lists n (x 0))
-    ∷ row "poke slots N N" (λ n x. pokes-slots (x 0) (x 1))
-    ∷ row "poke counters N N" (λ n x. pokes-counters (x 0) (x 1))
-    ∷ row "poke items N N" (λ n x. pokes-items (x 0) (x 1))
-    ∷ row "dump" (λ n x w. says (dump (w .memory)) w)
-    ∷ row "fresh N N N" (λ n x. starts (x 0) (x 1) (x 2))
-    ∷ row "" (λ n x w. says [] w)
+    row "serve N N N" (λ x. calls (serve (x 0) (x 1) (x 2)))
+    ∷ row "read N N N" (λ x. asks (read (x 0) (x 1) (x 2)))
+    ∷ row "set N P N" (λ x. calls (set-animal (grant (x 0) (permission (x 1)) (x 2) false)))
+    ∷ row "set N P N standing" (λ x. calls (set-animal (grant (x 0) (permission (x 1)) (x 2) true)))
+    ∷ row "delete N" (λ x. calls (delete (x 0)))
+    ∷ row "evict" (λ x. turns)
+    ∷ row "cut N set N P N" (λ x. cuts (x 0) (set-animal (grant (x 1) (permission (x 2)) (x 3) false)))
+    ∷ row "cut N set N P N standing" (λ x. cuts (x 0) (set-animal (grant (x 1) (permission (x 2)) (x 3) true)))
+    ∷ row "cut N delete N" (λ x. cuts (x 0) (delete (x 1)))
+    ∷ row "cut N evict" (λ x. cut-turns (x 0))
+    ∷ row "hand N" (λ x. hands (x 0))
+    ∷ row "list B" (λ x. lists (x 0))
+    ∷ row "poke slots N N" (λ x. pokes-slots (x 0) (x 1))
+    ∷ row "poke counters N N" (λ x. pokes-counters (x 0) (x 1))
+    ∷ row "poke items N N" (λ x. pokes-items (x 0) (x 1))
+    ∷ row "dump" (λ x w. says (dump (w .memory)) w)
+    ∷ row "fresh N N N" (λ x. starts (x 0) (x 1) (x 2))
+    ∷ row "" (λ x w. says [] w)
     ∷ []
 
--- what line n means that follows row r with these numbers; with no row it is not understood
+-- what line n means that follows row r with these numbers; with no row it is not understood, and its number says why
 abbrev pub meant : List Row → ℕ → ℕ → List ℕ → World → Reply
-meant [] r n xs w = says (not-understood n) w
-meant (t ∷ ts) zero n xs w = t .means n (λ i. getD xs i 0) w
+meant [] r n xs w = says (not-understood n (getD xs 0 0)) w
+meant (t ∷ ts) zero n xs w = t .means (λ i. getD xs i 0) w
 meant (t ∷ ts) (suc r) n xs w = meant ts r n xs w
 
 unfoldable pub meaning : ℕ → ℕ → List ℕ → World → Reply

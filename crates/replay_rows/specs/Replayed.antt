@@ -1,9 +1,14 @@
 -- What a whole text is answered with. Assumes nothing.
-use Prim.Native.Nat.{ℕ, suc}
+use Prim.Native.Nat.{ℕ, suc, _+_}
+use mathlib.Core.Bool.{Bool}
 use mathlib.Core.List.{List, [], _∷_, _++_}
+use lib.ListN.{length, getD}
+use lib.Dec.{eqb, ltb}
+use Rattle.model.specs.Choice.{choose}
 use Rattle.replay_print.specs.Text.{bytes}
-use Rattle.replay_words.specs.Words.{lines}
-use Rattle.replay_lines.specs.Line.{Said, said, padded}
+use Rattle.replay_words.specs.Words.{lines, without-mark}
+use Rattle.replay_lines.specs.Line.{said, padded}
+use Rattle.replay_echo.specs.Echo.{echo}
 use Rattle.replay_rows.specs.World.{World, Reply, nothing}
 use Rattle.replay_rows.specs.Meaning.{Row, rows, meaning}
 
@@ -15,18 +20,38 @@ row-lines (t ∷ ts) = bytes (t .says) ++ (bytes "\n" ++ row-lines ts)
 abbrev pub language : List ℕ
 language = row-lines rows
 
--- what line n is answered with, and the world behind it; no line has more than eight numbers
-abbrev pub follows : Said → ℕ → World → Reply
-follows s n w = meaning (s .row) n (padded 8 (s .numbers)) w
+-- line n and its call before the answer, if they are to be shown; no line has more than eight numbers
+unfoldable pub shown : Bool → ℕ → ℕ → List ℕ → List ℕ
+shown e n r xs = choose e (echo n (getD (lines language) r []) xs) []
 
-unfoldable pub reply-to : ℕ → World → List ℕ → Reply
-reply-to n w l = follows (said language l) n w
+-- what line n is answered with, and the world behind it
+abbrev pub follows : Bool → ℕ → ℕ → List ℕ → World → Reply
+follows e n r xs w = record { text = shown e n r xs ++ meaning r n xs w .text; world = meaning r n xs w .world }
+
+unfoldable pub reply-to : Bool → ℕ → World → List ℕ → Reply
+reply-to e n w l = follows e n (said language l .row) (padded 8 (said language l .numbers)) w
 
 -- the lines behind n others, one after the other, each in the world that the one before it left
-unfoldable pub replayed : ℕ → World → List (List ℕ) → List ℕ
-replayed n w [] = []
-replayed n w (l ∷ ls) = reply-to (suc n) w l .text ++ replayed (suc n) (reply-to (suc n) w l .world) ls
+unfoldable pub replayed : Bool → ℕ → World → List (List ℕ) → List ℕ
+replayed e n w [] = []
+replayed e n w (l ∷ ls) = reply-to e (suc n) w l .text ++ replayed e (suc n) (reply-to e (suc n) w l .world) ls
 
--- a text from its start, on no table
-abbrev pub answers : List ℕ → List ℕ
-answers text = replayed 0 nothing (lines text)
+-- a text from its start, on no table, with the calls shown or not
+abbrev pub answers : Bool → List ℕ → List ℕ
+answers e text = replayed e 0 nothing (lines (without-mark text))
+
+-- a line that follows row r is not understood if there is no such row
+abbrev pub unheard : ℕ → ℕ
+unheard r = choose (ltb r (length rows)) 0 1
+
+-- how many lines are not understood
+unfoldable pub missed-in : List (List ℕ) → ℕ
+missed-in [] = 0
+missed-in (l ∷ ls) = unheard (said language l .row) + missed-in ls
+
+abbrev pub missed : List ℕ → ℕ
+missed text = missed-in (lines (without-mark text))
+
+-- 1 if the answers could not be written; else 2 if some line was not understood; else 0
+abbrev pub status : (written : Bool) → ℕ → ℕ
+status written n = choose written (choose (eqb n 0) 0 2) 1

@@ -29,7 +29,11 @@ reply t m h = record { text = t; world = world m h }
 
 -- no answer is longer: a dump has at most 384 bytes and 21 for each of 13,312 words, a list 384 and 3 for each of 81,920 bytes; rounded up
 abbrev pub longest : ℕ
-longest = 294912
+longest = 286720
+
+-- nor is the call before it: at most 26 bytes and 20 for each byte of the language; rounded up
+abbrev pub longest-call : ℕ
+longest-call = 8192
 
 -- the code has answered so: the text stands in the buffer from a position on, and the memory and the hand are left so
 pub record Replied (y : Reply) (m : Mem) (at : ℕ) (before after : List ℕ) (r : Turn) : Type 0 where

@@ -7,12 +7,12 @@ use mathlib.Core.Logic.{_≢_}
 use mathlib.Core.Bool.{Bool, true, false, not}
 use mathlib.Core.Option.{none, some}
 use mathlib.Core.List.{List, [], _∷_}
-use lib.ListN.{length, getD, drop, drop-of-length-le}
-use lib.Seq.{drop-cons}
+use lib.ListN.{length, getD, drop, drop-of-length-le, length-take, take}
+use lib.Seq.{drop-cons, length-take-le}
 use lib.Dec.{eqb, leb}
 use borrow.Author.Tests.{eq-eqb, ne-eqb, le-leb, lt-leb}
 use Rattle.model.specs.Choice.{choose}
-use Rattle.replay_words.specs.Words.{all-digits, is-digit, number, number-from, same, value}
+use Rattle.replay_words.specs.Words.{all-digits, is-digit, mark-length, number, number-from, same, value}
 use Rattle.replay_words.proofs.Scan.{bool}
 
 -- words of two lengths differ
@@ -56,6 +56,24 @@ module _ {w n : List ℕ} {i : ℕ} (s : Alike w n i) where
       let hw : length w ≤ i = omega (arith, s .long) in
       let q : same (drop i w) (drop i n) ≡ true = rw (drop-of-length-le w hw, drop-of-length-le n h) in
       sym q ∙ s .ahead
+
+-- a byte order mark, or none
+pub mark-short : (bs : List ℕ) → length bs < 3 → 0 ≡ mark-length bs
+unfolding mark-length
+mark-short bs h =
+    let e : false ≡ same (take 3 bs) (239 ∷ 187 ∷ 191 ∷ []) = differ-long (take 3 bs) (239 ∷ 187 ∷ 191 ∷ []) (λ q. absurd (omega (arith, q, length-take 3 bs))) in
+    rw (sym e)
+
+pub mark-front : (bs : List ℕ) → 3 ≤ length bs → 3 ≡ length (take 3 bs)
+mark-front bs h = sym (length-take-le 3 bs h)
+
+pub mark-found : (bs : List ℕ) {t : Bool} → t ≡ same (take 3 bs) (239 ∷ 187 ∷ 191 ∷ []) → t ≡ true → 3 ≡ mark-length bs
+unfolding mark-length
+mark-found bs e y = rw (sym e ∙ y)
+
+pub mark-none : (bs : List ℕ) {t : Bool} → t ≡ same (take 3 bs) (239 ∷ 187 ∷ 191 ∷ []) → t ≡ false → 0 ≡ mark-length bs
+unfolding mark-length
+mark-none bs e n = rw (sym e ∙ n)
 
 pub not-not : (t : Bool) → not (not t) ≡ t
 not-not true = refl

@@ -4,7 +4,7 @@ use Prim.Native.Char.{code}
 use mathlib.Core.Bool.{Bool, true, false, not, _||_, _&&_}
 use mathlib.Core.Option.{Option, none, some}
 use mathlib.Core.List.{List, [], _∷_}
-use lib.ListN.{length, getD, take}
+use lib.ListN.{length, getD, take, drop}
 use lib.Dec.{eqb, leb}
 use Rattle.model.specs.Choice.{choose}
 
@@ -43,6 +43,21 @@ unfoldable pub lines : List ℕ → List (List ℕ)
 lines [] = []
 lines (b ∷ bs) = joined (is-end b) b (lines bs)
 
+-- two words have the same bytes
+unfoldable pub same : List ℕ → List ℕ → Bool
+same [] [] = true
+same [] (c ∷ cs) = false
+same (b ∷ bs) [] = false
+same (b ∷ bs) (c ∷ cs) = choose (eqb b c) (same bs cs) false
+
+-- how much of a text is its byte order mark
+unfoldable pub mark-length : List ℕ → ℕ
+mark-length bs = choose (same (take 3 bs) (239 ∷ 187 ∷ 191 ∷ [])) 3 0
+
+-- the mark is not part of what a text says
+unfoldable pub without-mark : List ℕ → List ℕ
+without-mark bs = drop (mark-length bs) bs
+
 -- a CR at the end of a line belongs to the line end
 unfoldable pub without-return : List ℕ → List ℕ
 without-return bs = choose (eqb (getD bs (length bs - 1) 0) (code "\r")) (take (length bs - 1) bs) bs
@@ -65,13 +80,6 @@ filled ((b ∷ p) ∷ ps) = (b ∷ p) ∷ filled ps
 -- the words of a line
 unfoldable pub words : List ℕ → List (List ℕ)
 words bs = filled (pieces bs)
-
--- two words have the same bytes
-unfoldable pub same : List ℕ → List ℕ → Bool
-same [] [] = true
-same [] (c ∷ cs) = false
-same (b ∷ bs) [] = false
-same (b ∷ bs) (c ∷ cs) = choose (eqb b c) (same bs cs) false
 
 abbrev pub is-digit : ℕ → Bool
 is-digit b = leb (code "0") b && leb b (code "9")

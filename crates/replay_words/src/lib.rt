@@ -2,7 +2,7 @@
 ghost use mathlib.Core.Path.{_≡_};
 ghost use Prim.Native.Nat.{_<_, _≤_};
 ghost use lib.ListN.{length};
-ghost use Rattle.replay_words.specs.Words.{sought, is-end, is-comment, is-gap, is-no-gap, same, is-digit, all-digits, number};
+ghost use Rattle.replay_words.specs.Words.{sought, is-end, is-comment, is-gap, is-no-gap, mark-length, same, is-digit, all-digits, number};
 ghost use Rattle.replay_words.specs.Cursor.{First, PieceAt, NextWord, told};
 
 // Whether a byte is one of two, or neither if they are not wanted.
@@ -55,6 +55,20 @@ pub fn piece_at(text: &[u8], from: usize) -> Piece
         return Piece { end, next: end + 1 };
     }
     Piece { end, next: end }
+}
+
+// The length of a text's byte order mark.
+pub fn mark_length(text: &[u8]) -> usize
+    ensures { λ r. ⌜ (r ≡ mark-length (now (text .entry))) × (r ≤ length (now (text .entry))) ⌝ }
+{
+    if text.len() < 3 {
+        return 0;
+    }
+    let mark = [239u8, 187, 191];
+    if is_word(&text[..3], &mark) {
+        return 3;
+    }
+    0
 }
 
 // The first comment sign, or the length.
