@@ -1,5 +1,5 @@
 -- The rows beside the calls: each arm of the code means what its row means. Assumes nothing.
-use Prim.Native.Nat.{ℕ, zero, suc, _+_, _*_, _≤_, _<_}
+use Prim.Native.Nat.{ℕ, zero, suc, _+_, _*_, _≤_, min}
 use native.Mathlib.Omega.{arith}
 use mathlib.Core.Path.{_≡_, refl, sym, ap}
 use mathlib.Core.Logic.{_≢_}
@@ -7,7 +7,6 @@ use mathlib.Core.Bool.{Bool}
 use mathlib.Core.List.{List, [], _∷_}
 use lib.ListN.{length, getD, take}
 use lib.Seq.{length-take-le}
-use borrow.Author.Tests.{le-leb, lt-leb}
 use Rattle.model.specs.Memory.{Mem, mem}
 use Rattle.model.specs.Shape.{four}
 use Rattle.model.specs.Calling.{write-list}
@@ -32,7 +31,7 @@ module _ {m : Mem} {at : ℕ} {before after : List ℕ} {row : ℕ} (h n : ℕ) 
   unfolding meaning hands
   as-hand e p = rw e (record { put = p; near = omega (arith, p .next); left = refl; hand = refl })
 
-  pub as-list : {r : Turn} → row ≡ 11 → Replied (lists n (getD xs 0 0) (world m h)) m at before after r
+  pub as-list : {r : Turn} → row ≡ 11 → Replied (lists (getD xs 0 0) (world m h)) m at before after r
       → Replied (meaning row n xs (world m h)) m at before after r
   unfolding meaning
   as-list e y = rw e y
@@ -83,14 +82,14 @@ module _ {m : Mem} {at : ℕ} {before after : List ℕ} {row : ℕ} (h n : ℕ) 
 past : (k r : ℕ) → k ≤ r → r ≢ k → k + 1 ≤ r
 past k r h ne = omega arith
 
-beyond : (ts : List Row) (r n : ℕ) (xs : List ℕ) (w : World) → length ts ≤ r → meant ts r n xs w ≡ says (not-understood n) w
+beyond : (ts : List Row) (r n : ℕ) (xs : List ℕ) (w : World) → length ts ≤ r → meant ts r n xs w ≡ says (not-understood n (getD xs 0 0)) w
 beyond [] r n xs w h = refl
 beyond (t ∷ ts) zero n xs w h = absurd (omega arith)
 beyond (t ∷ ts) (suc r) n xs w h = beyond ts r n xs w (omega arith)
 
 module _ {m : Mem} {at h next : ℕ} {before after : List ℕ} {row : ℕ} (n : ℕ) (xs : List ℕ) where
   pub as-not-understood : 10 ≤ row → row ≢ 16 → row ≢ 10 → row ≢ 11 → row ≢ 12 → row ≢ 13 → row ≢ 14 → row ≢ 15 → row ≢ 17
-      → Put (not-understood n) at before after next → next ≤ at + 384 → Arm row n xs m h m at before after next
+      → Put (not-understood n (getD xs 0 0)) at before after next → next ≤ at + 384 → Arm row n xs m h m at before after next
   unfolding meaning
   as-not-understood lo n16 n10 n11 n12 n13 n14 n15 n17 p l =
       let k : 18 ≤ row = past 17 row (past 16 row (past 15 row (past 14 row (past 13 row (past 12 row (past 11 row (past 10 row lo n10) n11) n12) n13) n14) n15) n16) n17 in
@@ -102,20 +101,16 @@ unfolding meaning
 as-blank n xs e = rw e (record { put = record { bytes-put = refl; next = omega arith }; near = omega arith; left = refl; hand = refl })
 
 -- the list: the bytes lent for it are there, and its lines have room
-pub list-bytes : (n : ℕ) (run : List ℕ) → length run ≡ 81920 → n ≤ 81920 → n ≡ length (take n run)
-list-bytes n run e h = let k : n ≤ length run = omega arith in sym (length-take-le n run k)
+pub list-bytes : (size : ℕ) {n : ℕ} (run : List ℕ) → length run ≡ 81920 → n ≡ min size 81920 → n ≡ length (take n run)
+list-bytes size {n} run e h = let k : n ≤ length run = omega arith in sym (length-take-le n run k)
 
-pub list-room : (at n : ℕ) (run out : List ℕ) → length run ≡ 81920 → n ≤ 81920 → at + longest ≤ length out → at + 384 + 3 * length (take n run) ≤ length out
-list-room at n run out e h r = omega (arith, list-bytes n run e h)
+pub list-room : (at size : ℕ) {n : ℕ} (run out : List ℕ) → length run ≡ 81920 → n ≡ min size 81920 → at + longest ≤ length out
+    → at + 384 + 3 * length (take n run) ≤ length out
+list-room at size run out e h r = omega (arith, list-bytes size run e h)
 
-module _ {m : Mem} {at next : ℕ} {before after : List ℕ} (h n size : ℕ) where
-  pub list-too-large : 81920 < size → Put (not-understood n) at before after next → next ≤ at + 384
-      → Replied (lists n size (world m h)) m at before after (record { next = next; hand = h })
-  unfolding lists
-  list-too-large k p l = rw (lt-leb size 81920 k) (record { put = p; near = omega arith; left = refl; hand = refl })
-
-  pub list-told : (run : List ℕ) → length run ≡ 81920 → size ≤ 81920 → Put (text (lent-call four m (write-list (length (take size run))) .answer)) at before after next
-      → next ≤ at + 384 + 3 * length (take size run) → Replied (lists n size (world m h)) m at before after (record { next = next; hand = h })
-  unfolding lists asks
-  list-told run e s p l =
-      rw (le-leb size 81920 s) (record { put = rw (list-bytes size run e s) p; near = omega (arith, list-bytes size run e s); left = refl; hand = refl })
+pub list-told : {m : Mem} {at next n : ℕ} {before after : List ℕ} (h size : ℕ) (run : List ℕ) → length run ≡ 81920 → n ≡ min size 81920
+    → Put (text (lent-call four m (write-list (length (take n run))) .answer)) at before after next → next ≤ at + 384 + 3 * length (take n run)
+    → Replied (lists size (world m h)) m at before after (record { next = next; hand = h })
+unfolding lists asks
+list-told h size run e s p l =
+    record { put = rw (← s, list-bytes size run e s) p; near = omega (arith, list-bytes size run e s); left = refl; hand = refl }

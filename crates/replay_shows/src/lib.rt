@@ -1,7 +1,7 @@
 // The lines of a replay beside the table's calls: the hand, the list, a poke, a dump, and what is not understood.
 ghost use mathlib.Core.Path.{_≡_};
 ghost use mathlib.Core.Logic.{_≢_};
-ghost use Prim.Native.Nat.{_+_, _*_, _≤_};
+ghost use Prim.Native.Nat.{_+_, _*_, _≤_, min};
 ghost use lib.ListN.{length};
 ghost use Rattle.model.specs.Memory.{mem};
 ghost use Rattle.model.specs.Shape.{four};
@@ -57,9 +57,18 @@ fn put_list(
     replay_answers::put_listing(out, at, said, records)
 }
 
-// The list into the bytes lent for it, if there are so many.
+// How many bytes a list is lent: no more than there are.
+fn lent_to(size: u64) -> usize
+    ensures { λ r. ⌜ r ≡ min size 81920 ⌝ }
+{
+    if 81920 < size {
+        return 81920;
+    }
+    size as usize
+}
+
+// The list into that many bytes.
 fn list_line(
-    number: u64,
     size: u64,
     slots: &[u32],
     counters: &[u32],
@@ -70,16 +79,10 @@ fn list_line(
     hand: usize,
 ) -> Turn
     requires { ⌜ (length (now records) ≡ 81920) × (at + longest ≤ length (now out)) ⌝ }
-    ensures { λ r. ⌜ Replied (lists number size (world (mem (now (slots .entry)) (now (counters .entry)) (now (items .entry))) hand))
+    ensures { λ r. ⌜ Replied (lists size (world (mem (now (slots .entry)) (now (counters .entry)) (now (items .entry))) hand))
         (mem (now (slots .entry)) (now (counters .entry)) (now (items .entry))) at (now (out .entry)) (now (out .exit)) r ⌝ }
 {
-    if 81920 < size {
-        return Turn {
-            next: replay_answers::put_not_understood(out, at, number),
-            hand,
-        };
-    }
-    let end = size as usize;
+    let end = lent_to(size);
     Turn {
         next: put_list(slots, counters, items, &mut records[..end], out, at),
         hand,
@@ -111,7 +114,7 @@ pub fn beside_the_calls(
             next: replay_print::put_line(out, at, b"hand"),
             hand: a as usize,
         },
-        11 => list_line(number, a, slots, counters, items, records, out, at, hand),
+        11 => list_line(a, slots, counters, items, records, out, at, hand),
         12 => {
             let poked = poke32(slots, a, b);
             Turn {
@@ -139,7 +142,7 @@ pub fn beside_the_calls(
         },
         17 => Turn { next: at, hand },
         _ => Turn {
-            next: replay_answers::put_not_understood(out, at, number),
+            next: replay_answers::put_not_understood(out, at, number, a),
             hand,
         },
     }
