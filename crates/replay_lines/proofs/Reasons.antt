@@ -9,7 +9,7 @@ use mathlib.Core.Option.{Option, none, some}
 use mathlib.Core.List.{List, [], _∷_}
 use lib.ListN.{length, drop, drop-of-length-le, take}
 use lib.Dec.{eqb, leb}
-use borrow.Author.Tests.{eqb-true, eqb-false, le-leb, lt-leb}
+use borrow.Author.Tests.{eqb-true, eqb-false, le-leb, lt-leb, not-true, not-false}
 use Rattle.replay_words.specs.Words.{all-digits, lines, words}
 use Rattle.replay_words.specs.Cursor.{NextWord, PieceAt, part, told as number-told}
 use Rattle.replay_words.specs.declared.Number.{Number}
@@ -17,7 +17,6 @@ use Rattle.replay_words.specs.declared.Number.the-variants as number
 use Rattle.replay_words.specs.declared.Piece.{Piece}
 use Rattle.replay_words.specs.declared.Word.{Word}
 use Rattle.replay_words.proofs.Scan.{bool}
-use Rattle.replay_words.proofs.OneWord.{not-not}
 use Rattle.model.specs.Choice.{choose}
 use Rattle.replay_lines.specs.Taking.{bound, taken, takes}
 use Rattle.replay_lines.specs.Reasons.{Parting, behind, further, furthest, instead, parting, parts, why-not}
@@ -107,7 +106,7 @@ module _ {row line : List ℕ} {i j k : ℕ} {p w : Word} (a : Along row line i 
       along-stop b n f q =
           parted
           (ap (parts k) (q ∙ ap (λ (o : Option ℕ). instead o (part line (w .start) (w .end))) f)
-          ∙ sym (step {u = false} (sym (ap not n) ∙ not-not t)))
+          ∙ sym (step {u = false} (sym (not-true t n))))
 
       pub along-on : not t ≡ false → Along row line (p .end) (w .end) (k + 1)
       along-on n =
@@ -116,7 +115,7 @@ module _ {row line : List ℕ} {i j k : ℕ} {p w : Word} (a : Along row line i 
             in-row = next-p .inside;
             in-line = next-w .inside;
             few = omega (arith, a .few, next-p .onward);
-            ahead = sym (step {u = true} (sym (ap not n) ∙ not-not t));
+            ahead = sym (step {u = true} (sym (not-false t n)));
           }
 
 -- the rows up to from have been compared

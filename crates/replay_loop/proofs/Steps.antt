@@ -80,7 +80,7 @@ pub on-table-stepped : {slots counters items ys cs zs out out′ : List ℕ} {st
     → length ys ≡ length (take (st .slots) slots) → length cs ≡ length (take (st .counters) counters) → length zs ≡ length (take (st .items) items)
     → Replied y (mem ys cs zs) (st .at) out out′ t
     → Stepped y st
-    (record { slots = st .slots; counters = st .counters; items = st .items; hand = t .hand; number = st .number; from = st .from; at = t .next })
+    (record { slots = st .slots; counters = st .counters; items = st .items; hand = t .hand; number = st .number; missed = st .missed; from = st .from; at = t .next })
     (ys ++ drop (st .slots) slots) (cs ++ drop (st .counters) counters) (zs ++ drop (st .items) items) out out′
 on-table-stepped {slots} {counters} {items} {ys} {cs} {zs} {out} {out′} {st} {t} y k es ev ei r =
     let hs : st .slots ≤ length slots = omega (arith, k .slots-in, k .all-slots) in
@@ -93,6 +93,7 @@ on-table-stepped {slots} {counters} {items} {ys} {cs} {zs} {out} {out′} {st} {
       held = back-held slots counters items ys cs zs (st .slots) (st .counters) (st .items) hs hv hi es ev ei k refl refl refl;
       same-number = refl;
       same-from = refl;
+      same-missed = refl;
     }
 
 -- a fresh that is refused leaves all as it was
@@ -115,6 +116,7 @@ module _ {slots counters items out out′ : List ℕ} {st r : State} (s v i : �
         };
         same-number = q .same-number;
         same-from = q .same-from;
+        same-missed = q .same-missed;
       })
 
   pub refused-slots : length slots < s → Stepped (starts s v i (in-use slots counters items st)) st r slots counters items out out′
@@ -157,7 +159,7 @@ module _ {slots counters items : List ℕ} {st : State} (s v i : ℕ) (k : Held 
       → FreshAs four (mem (take s slots) (take v counters) (take i items)) (mem ys cs zs) (said-starting said) → Put (line (bytes "fresh")) (st .at) out out′ next
       → length ys ≡ length (take s slots) → length cs ≡ length (take v counters) → length zs ≡ length (take i items)
       → Stepped (starts s v i (in-use slots counters items st)) st
-      (record { slots = s; counters = v; items = i; hand = 0; number = st .number; from = st .from; at = next })
+      (record { slots = s; counters = v; items = i; hand = 0; number = st .number; missed = st .missed; from = st .from; at = next })
       (ys ++ drop s slots) (cs ++ drop v counters) (zs ++ drop i items) out out′
   unfolding starts
   fresh-made {ys} {cs} {zs} {out} {out′} {next} {said} e f p es ev ei =
@@ -165,7 +167,7 @@ module _ {slots counters items : List ℕ} {st : State} (s v i : ℕ) (k : Held 
       (λ b. right-lengths four (mem (take s slots) (take v counters) (take i items)) ≡ b → said-starting said ≡ choose b started (refused 1)
       → mem ys cs zs ≡ choose b (fresh-memory (shape-of four (mem (take s slots) (take v counters) (take i items)))) (mem (take s slots) (take v counters) (take i items))
       → Stepped (starts s v i (in-use slots counters items st)) st
-      (record { slots = s; counters = v; items = i; hand = 0; number = st .number; from = st .from; at = next })
+      (record { slots = s; counters = v; items = i; hand = 0; number = st .number; missed = st .missed; from = st .from; at = next })
       (ys ++ drop s slots) (cs ++ drop v counters) (zs ++ drop i items) out out′)
       (right-lengths four (mem (take s slots) (take v counters) (take i items)))
       (λ _ g t l.
@@ -180,6 +182,7 @@ module _ {slots counters items : List ℕ} {st : State} (s v i : ℕ) (k : Held 
         held = back-held slots counters items ys cs zs s v i hs hv hi es ev ei k refl refl refl;
         same-number = refl;
         same-from = refl;
+      same-missed = refl;
       }))
       (λ _ g t l. let z : _≡_ {A = ℕ} 1 0 = ap (λ (a : Answer). length (paper a .values)) (sym (ap said-starting e) ∙ t) in absurd (omega arith))
       refl (f .told) (f .left)

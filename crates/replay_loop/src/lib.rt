@@ -3,20 +3,21 @@ ghost use mathlib.Core.Path.{_≡_};
 ghost use Prim.Native.Nat.{_+_, _<_, _≤_};
 ghost use lib.ListN.{length};
 ghost use Rattle.replay_rows.specs.Meaning.{meaning, starts};
-ghost use Rattle.replay_rows.specs.World.{longest};
-ghost use Rattle.replay_rows.specs.Replayed.{answers, language};
-ghost use Rattle.replay_lines.specs.Line.{said, padded};
-ghost use Rattle.replay_loop.specs.Standing.{in-use, Held, LineRead, Next, Stepped, Refused, Went};
+ghost use Rattle.buffer.specs.Put.{Put};
+ghost use Rattle.replay_rows.specs.World.{longest, longest-call, longest-line};
+ghost use Rattle.replay_rows.specs.Replayed.{language, shown, status as status-of, unheard as is-unheard};
+ghost use Rattle.replay_loop.specs.Standing.{in-use, Ended, Held, LineRead, Next, Stepped, Refused, Went};
 use libc::STDOUT_FILENO;
 use model::Starting;
 
-// Where the replay stands: the lengths of the three runs in use and the hand; the lines that are behind it, the position in the text, and in the buffer.
+// Where the replay stands: the lengths of the three runs in use and the hand; the lines that are behind it and how many of them were not understood, the position in the text, and in the buffer.
 pub struct State {
     pub slots: usize,
     pub counters: usize,
     pub items: usize,
     pub hand: usize,
     pub number: u64,
+    pub missed: u64,
     pub from: usize,
     pub at: usize,
 }
@@ -33,6 +34,7 @@ fn refuse_fresh(out: &mut [u8], state: State) -> State
         items: state.items,
         hand: state.hand,
         number: state.number,
+        missed: state.missed,
         from: state.from,
         at,
     }
@@ -73,6 +75,7 @@ fn start(
                 items: i,
                 hand: 0,
                 number: state.number,
+                missed: state.missed,
                 from: state.from,
                 at,
             }
@@ -129,20 +132,10 @@ fn step(
         items: i,
         hand: turn.hand,
         number: state.number,
+        missed: state.missed,
         from: state.from,
         at: turn.next,
     }
-}
-
-// The row that a line follows, and its numbers. The rows are those of the language, in its order.
-fn row_of(line: &[u8], numbers: &mut [u64]) -> usize
-    ensures { λ r. ⌜ (r ≡ said language (now (line .entry)) .row) × (now (numbers .exit) ≡ padded (length (now (numbers .entry))) (said language (now (line .entry)) .numbers)) ⌝ }
-{
-    replay_lines::row_of(
-        b"serve N N N\nread N N N\nset N P N\nset N P N standing\ndelete N\nevict\ncut N set N P N\ncut N set N P N standing\ncut N delete N\ncut N evict\nhand N\nlist N\npoke slots N N\npoke counters N N\npoke items N N\ndump\nfresh N N N\n\n",
-        line,
-        numbers,
-    )
 }
 
 // Which row the line at a position follows, and where the next line starts.
@@ -151,21 +144,52 @@ struct Read {
     next: usize,
 }
 
-fn read_line(calls: &[u8], from: usize, numbers: &mut [u64]) -> Read
-    requires { ⌜ (from < length (now calls)) × (length (now numbers) ≡ 8) ⌝ }
-    ensures { λ r. ⌜ LineRead (now (calls .entry)) from (now (numbers .exit)) r ⌝ }
+fn read_line(rows: &[u8], calls: &[u8], from: usize, echo: bool, numbers: &mut [u64]) -> Read
+    requires { ⌜ (now rows ≡ language) × (from < length (now calls)) × (length (now numbers) ≡ 8) ⌝ }
+    ensures { λ r. ⌜ LineRead echo (now (calls .entry)) from (now (numbers .exit)) r ⌝ }
 {
     let piece = replay_words::piece_at(calls, from);
     let end = piece.end;
     Read {
-        row: row_of(&calls[from..end], numbers),
+        row: replay_lines::row_of(rows, &calls[from..end], numbers),
         next: piece.next,
     }
 }
 
+// A line's number and call before its answer, if they are to be shown.
+fn show_call(
+    rows: &[u8],
+    echo: bool,
+    row: usize,
+    numbers: &[u64],
+    number: u64,
+    out: &mut [u8],
+    at: usize,
+) -> usize
+    requires { ⌜ (now rows ≡ language) × (at + longest-call ≤ length (now out)) ⌝ }
+    ensures { λ r. ⌜ Put (shown echo number row (now (numbers .entry))) at (now (out .entry)) (now (out .exit)) r × (r ≤ at + longest-call) ⌝ }
+{
+    if echo {
+        return replay_echo::put_echo(rows, row, numbers, number, out, at);
+    }
+    at
+}
+
+// One if there is no such row, so that its line was not understood.
+fn unheard(row: usize) -> u64
+    ensures { λ r. ⌜ (r ≡ is-unheard row) × (r ≤ 1) ⌝ }
+{
+    if row < 18 {
+        return 0;
+    }
+    1
+}
+
 // The next line of the text.
 fn next_line(
+    rows: &[u8],
     calls: &[u8],
+    echo: bool,
     slots: &mut [u32],
     counters: &mut [u32],
     items: &mut [u64],
@@ -173,22 +197,25 @@ fn next_line(
     out: &mut [u8],
     state: State,
 ) -> State
-    requires { ⌜ Held (now slots) (now counters) (now items) state × (state .at + longest ≤ length (now out)) ⌝ }
-    requires { ⌜ (state .from < length (now calls)) × (state .number ≤ state .from) × (length (now records) ≡ 81920) ⌝ }
-    ensures { λ r. ⌜ Went (now (calls .entry)) (now (slots .entry)) (now (counters .entry)) (now (items .entry)) (now (out .entry)) state
+    requires { ⌜ (now rows ≡ language) × Held (now slots) (now counters) (now items) state × (state .at + longest-line ≤ length (now out)) ⌝ }
+    requires { ⌜ (state .from < length (now calls)) × (state .number ≤ state .from) × (state .missed ≤ state .number) × (length (now records) ≡ 81920) ⌝ }
+    ensures { λ r. ⌜ Went echo (now (calls .entry)) (now (slots .entry)) (now (counters .entry)) (now (items .entry)) (now (out .entry)) state
         (now (slots .exit)) (now (counters .exit)) (now (items .exit)) (now (out .exit)) r ⌝ }
     ensures { λ r. ⌜ state .from < r .from ⌝ }
 {
     let mut numbers = [0u64; 8];
-    let line = read_line(calls, state.from, &mut numbers);
+    let line = read_line(rows, calls, state.from, echo, &mut numbers);
+    let number = state.number + 1;
+    let at = show_call(rows, echo, line.row, &numbers, number, out, state.at);
     let here = State {
         slots: state.slots,
         counters: state.counters,
         items: state.items,
         hand: state.hand,
-        number: state.number + 1,
+        number,
+        missed: state.missed + unheard(line.row),
         from: line.next,
-        at: state.at,
+        at,
     };
     step(
         line.row,
@@ -204,7 +231,9 @@ fn next_line(
 
 // Lines until the buffer may not hold the next answer, or the text ends: at least one.
 fn portion(
+    rows: &[u8],
     calls: &[u8],
+    echo: bool,
     slots: &mut [u32],
     counters: &mut [u32],
     items: &mut [u64],
@@ -212,9 +241,9 @@ fn portion(
     out: &mut [u8],
     start: State,
 ) -> State
-    requires { ⌜ Held (now slots) (now counters) (now items) start × (start .at ≡ 0) × (longest ≤ length (now out)) ⌝ }
-    requires { ⌜ (start .from < length (now calls)) × (start .number ≤ start .from) × (length (now records) ≡ 81920) ⌝ }
-    ensures { λ r. ⌜ Went (now (calls .entry)) (now (slots .entry)) (now (counters .entry)) (now (items .entry)) (now (out .entry)) start
+    requires { ⌜ (now rows ≡ language) × Held (now slots) (now counters) (now items) start × (start .at ≡ 0) × (longest-line ≤ length (now out)) ⌝ }
+    requires { ⌜ (start .from < length (now calls)) × (start .number ≤ start .from) × (start .missed ≤ start .number) × (length (now records) ≡ 81920) ⌝ }
+    ensures { λ r. ⌜ Went echo (now (calls .entry)) (now (slots .entry)) (now (counters .entry)) (now (items .entry)) (now (out .entry)) start
         (now (slots .exit)) (now (counters .exit)) (now (items .exit)) (now (out .exit)) r ⌝ }
     ensures { λ r. ⌜ (start .from < r .from) × (r .at ≤ length (now (out .entry))) ⌝ }
 {
@@ -223,32 +252,62 @@ fn portion(
         if out.len() - state.at < 294912 {
             return state;
         }
-        state = next_line(calls, slots, counters, items, records, out, state);
+        state = next_line(rows, calls, echo, slots, counters, items, records, out, state);
     }
     state
 }
 
-// The next bytes of the answers go out; how many have gone out by then.
-fn hand_over(portion: &[u8], calls: &[u8], written: u64) -> u64
-    requires { ⌜ Next (now calls) written (now portion) ⌝ }
-    ensures { λ r. ⌜ r ≡ written + length (now (portion .entry)) ⌝ }
-{
-    io::write_all(STDOUT_FILENO, portion);
-    written + portion.len() as u64
+// Whether a portion could be written, and how many bytes of the answers have then gone out.
+struct Sent {
+    whole: bool,
+    bytes: u64,
 }
 
-// All portions of a text's answers; how many bytes they have.
+// The next bytes of the answers go out.
+fn hand_over(portion: &[u8], calls: &[u8], echo: bool, written: u64) -> Sent
+    requires { ⌜ Next echo (now calls) written (now portion) ⌝ }
+    ensures { λ r. ⌜ r .bytes ≡ written + length (now (portion .entry)) ⌝ }
+{
+    Sent {
+        whole: io::write_all(STDOUT_FILENO, portion),
+        bytes: written + portion.len() as u64,
+    }
+}
+
+// What came of a replay: whether all answers could be written, how many bytes of them went out, and how many lines were not understood.
+pub struct Replayed {
+    pub whole: bool,
+    pub bytes: u64,
+    pub missed: u64,
+}
+
+// The status that tells it.
+pub fn status(done: Replayed) -> u8
+    ensures { λ r. ⌜ r ≡ status-of (done .whole) (done .missed) ⌝ }
+{
+    if !done.whole {
+        return 1;
+    }
+    if done.missed == 0 {
+        return 0;
+    }
+    2
+}
+
+// All portions of a text's answers. A text may begin with a byte order mark.
 fn portions(
+    rows: &[u8],
     calls: &[u8],
+    echo: bool,
     slots: &mut [u32],
     counters: &mut [u32],
     items: &mut [u64],
     records: &mut [u8],
     out: &mut [u8],
-) -> u64
-    requires { ⌜ (length (now slots) ≡ 8192) × (length (now counters) ≡ 1024) × (length (now items) ≡ 4096) ⌝ }
-    requires { ⌜ (length (now records) ≡ 81920) × (longest ≤ length (now out)) × (length (now calls) ≤ 2097152) ⌝ }
-    ensures { λ r. ⌜ r ≡ length (answers (now (calls .entry))) ⌝ }
+) -> Replayed
+    requires { ⌜ (now rows ≡ language) × (length (now slots) ≡ 8192) × (length (now counters) ≡ 1024) × (length (now items) ≡ 4096) ⌝ }
+    requires { ⌜ (length (now records) ≡ 81920) × (longest-line ≤ length (now out)) × (length (now calls) ≤ 2097152) ⌝ }
+    ensures { λ r. ⌜ Ended echo (now (calls .entry)) r ⌝ }
 {
     let mut state = State {
         slots: 0,
@@ -256,25 +315,39 @@ fn portions(
         items: 0,
         hand: 0,
         number: 0,
-        from: 0,
+        missed: 0,
+        from: replay_words::mark_length(calls),
         at: 0,
     };
     let mut written: u64 = 0;
     while state.from < calls.len() {
-        let full = portion(calls, slots, counters, items, records, out, state);
+        let full = portion(rows, calls, echo, slots, counters, items, records, out, state);
         let end = full.at;
-        written = hand_over(&out[..end], calls, written);
+        let sent = hand_over(&out[..end], calls, echo, written);
+        if !sent.whole {
+            return Replayed {
+                whole: false,
+                bytes: written,
+                missed: full.missed,
+            };
+        }
+        written = sent.bytes;
         state = State {
             slots: full.slots,
             counters: full.counters,
             items: full.items,
             hand: full.hand,
             number: full.number,
+            missed: full.missed,
             from: full.from,
             at: 0,
         };
     }
-    written
+    Replayed {
+        whole: true,
+        bytes: written,
+        missed: state.missed,
+    }
 }
 
 // The bytes that a list may fill: document 01's 20 bytes for each of 4,096 places. It says nothing of its elements, so that no proof counts them; nor does the next.
@@ -291,10 +364,10 @@ fn portion_bytes() -> [u8; 299008]
     [0; 299008]
 }
 
-// Replays a text on a table of the program's own; how many bytes it answers.
-pub fn replay(calls: &[u8]) -> u64
+// Replays a text on a table of the program's own, with the calls shown before their answers or not. The rows are those of the language, in its order.
+pub fn replay(calls: &[u8], echo: bool) -> Replayed
     requires { ⌜ length (now calls) ≤ 2097152 ⌝ }
-    ensures { λ r. ⌜ r ≡ length (answers (now (calls .entry))) ⌝ }
+    ensures { λ r. ⌜ Ended echo (now (calls .entry)) r ⌝ }
 {
     let mut slots = [0u32; 8192];
     let mut counters = [0u32; 1024];
@@ -302,7 +375,9 @@ pub fn replay(calls: &[u8]) -> u64
     let mut records = record_bytes();
     let mut out = portion_bytes();
     portions(
+        b"serve N N N\nread N N N\nset N P N\nset N P N standing\ndelete N\nevict\ncut N set N P N\ncut N set N P N standing\ncut N delete N\ncut N evict\nhand N\nlist B\npoke slots N N\npoke counters N N\npoke items N N\ndump\nfresh N N N\n\n",
         calls,
+        echo,
         &mut slots,
         &mut counters,
         &mut items,

@@ -35,6 +35,10 @@ longest = 286720
 abbrev pub longest-call : ℕ
 longest-call = 8192
 
+-- so this is room enough for both
+abbrev pub longest-line : ℕ
+longest-line = 294912
+
 -- the code has answered so: the text stands in the buffer from a position on, and the memory and the hand are left so
 pub record Replied (y : Reply) (m : Mem) (at : ℕ) (before after : List ℕ) (r : Turn) : Type 0 where
   pub put : Put (y .text) at before after (r .next)

@@ -10,7 +10,7 @@ use mathlib.Core.List.{List, [], _∷_}
 use lib.ListN.{length, getD, drop, drop-of-length-le, length-take, take}
 use lib.Seq.{drop-cons, length-take-le}
 use lib.Dec.{eqb, leb}
-use borrow.Author.Tests.{eq-eqb, ne-eqb, le-leb, lt-leb}
+use borrow.Author.Tests.{eq-eqb, ne-eqb, le-leb, lt-leb, not-true, not-false}
 use Rattle.model.specs.Choice.{choose}
 use Rattle.replay_words.specs.Words.{all-digits, is-digit, mark-length, number, number-from, same, value}
 use Rattle.replay_words.proofs.Scan.{bool}
@@ -75,10 +75,6 @@ pub mark-none : (bs : List ℕ) {t : Bool} → t ≡ same (take 3 bs) (239 ∷ 1
 unfolding mark-length
 mark-none bs e n = rw (sym e ∙ n)
 
-pub not-not : (t : Bool) → not (not t) ≡ t
-not-not true = refl
-not-not false = refl
-
 -- the bytes of a word up to i are digits
 pub record Digits (w : List ℕ) (i : ℕ) : Type 0 where
   pub inside : i ≤ length w
@@ -92,13 +88,13 @@ module _ {w : List ℕ} {i : ℕ} (s : Digits w i) where
     pub digits-not : not t ≡ true → false ≡ all-digits w
     unfolding all-digits
     digits-not e =
-        let q : all-digits (drop i w) ≡ false = rw (drop-cons w i 0 h, sym g ∙ sym (not-not t) ∙ ap not e) in
+        let q : all-digits (drop i w) ≡ false = rw (drop-cons w i 0 h, sym g ∙ not-true t e) in
         sym q ∙ s .ahead
 
     pub digits-more : not t ≡ false → Digits w (i + 1)
     unfolding all-digits
     digits-more e =
-        let q : all-digits (drop i w) ≡ all-digits (drop (i + 1) w) = rw (drop-cons w i 0 h, sym g ∙ sym (not-not t) ∙ ap not e, add-one) in
+        let q : all-digits (drop i w) ≡ all-digits (drop (i + 1) w) = rw (drop-cons w i 0 h, sym g ∙ not-false t e, add-one) in
         record { inside = omega arith; ahead = sym q ∙ s .ahead }
 
   pub digits-end : length w ≤ i → true ≡ all-digits w
