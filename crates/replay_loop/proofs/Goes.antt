@@ -1,20 +1,18 @@
 -- Line by line: what is in the buffer and what is still to come stay the same. Assumes nothing.
-use Prim.Native.Nat.{ℕ, _+_, _-_, _*_, _≤_, _<_}
+use Prim.Native.Nat.{ℕ, _+_, _-_, _≤_, _<_}
 use native.Mathlib.Omega.{arith}
 use native.Mathlib.Numerals.{add-one}
 use mathlib.Core.Path.{_≡_, refl, sym, ap, ap₂, _∙_}
-use mathlib.Core.Bool.{Bool, true, false}
-use mathlib.Core.List.{List, [], _++_, append-assoc}
-use lib.ListN.{length, getD, take, drop, length-append}
+use mathlib.Core.Bool.{Bool}
+use mathlib.Core.List.{List, _++_, append-assoc}
+use lib.ListN.{length, take, drop, length-append}
 use lib.Seq.{take-at, length-take-le}
-use borrow.Author.Tests.{lt-ltb, le-ltb}
 use Rattle.buffer.specs.Put.{Put}
 use Rattle.buffer.proofs.Putting.{put-both, put-is, put-length}
 use Rattle.replay_words.specs.Words.{lines}
 use Rattle.replay_words.specs.Cursor.{PieceAt, part}
 use Rattle.replay_words.specs.declared.Piece.{Piece}
 use Rattle.replay_lines.specs.Line.{said, padded}
-use Rattle.replay_echo.specs.Echo.{echo}
 use Rattle.replay_rows.specs.World.{Reply, longest-call, longest-line}
 use Rattle.replay_rows.specs.Meaning.{meaning}
 use Rattle.replay_rows.specs.Replayed.{language, missed-in, replayed, reply-to, shown, unheard}
@@ -29,13 +27,6 @@ put-front {bs} {out} {out′} {at} {r} p h =
     let long : length (take at out ++ bs) ≡ r = omega (arith, length-append (take at out) bs, length-take-le at out short, p .next) in
     ap (take r) (put-is p h) ∙ take-at (take at out ++ bs) (drop (at + length bs) out) r long
 
--- whether a line was understood
-pub heard : (r : ℕ) → r < 18 → 0 ≡ unheard r
-heard r h = rw (lt-ltb r 18 h)
-
-pub not-heard : (r : ℕ) → 18 ≤ r → 1 ≡ unheard r
-not-heard r h = rw (le-ltb r 18 h)
-
 -- the first of some lines is answered, and then the others
 pub line-read : (e : Bool) {rows calls xs : List ℕ} {from row m : ℕ} {piece : Piece} → rows ≡ language → PieceAt calls from piece → m ≡ 8
     → row ≡ said rows (part calls from (piece .end)) .row → xs ≡ padded m (said rows (part calls from (piece .end)) .numbers)
@@ -48,23 +39,6 @@ line-read e l p k er ex =
       answers-first = λ n w. rw (p .first-line, er, ex, k, l, add-one) refl;
       missed-first = rw (p .first-line, er, l) refl;
     }
-
--- a call is shown before its answer
-pub shown-call : (n row : ℕ) (xs : List ℕ) {e : Bool} {rows out out′ : List ℕ} {at r : ℕ} → rows ≡ language → e ≡ true
-    → Put (echo n (getD (lines rows) row []) xs) at out out′ r → Put (shown e n row xs) at out out′ r
-unfolding shown
-shown-call n row xs l y p = rw (y, ← l) p
-
-pub shown-none : (n row : ℕ) (xs : List ℕ) {e : Bool} {out : List ℕ} {at : ℕ} → e ≡ false → Put (shown e n row xs) at out out at
-unfolding shown
-shown-none n row xs f = rw f (record { bytes-put = refl; next = omega arith })
-
--- the call of a row is short
-pub shown-short : (at : ℕ) {rows : List ℕ} {r : ℕ} → rows ≡ language → r ≤ at + 26 + 20 * length rows → r ≤ at + longest-call
-shown-short at l h = omega (arith, ap length l)
-
-pub room-to-show : (at : ℕ) (out : List ℕ) {rows : List ℕ} → rows ≡ language → at + longest-call ≤ length out → at + 26 + 20 * length rows ≤ length out
-room-to-show at out l h = omega (arith, ap length l)
 
 pub goes-forward : {e : Bool} {calls xs slots counters items out out′ : List ℕ} {from : ℕ} {line : Read} {y : Reply} {st r : State} → LineRead e calls from xs line
     → Stepped y st r slots counters items out out′ → st .from ≡ line .next → from < r .from

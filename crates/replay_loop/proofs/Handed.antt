@@ -2,16 +2,14 @@
 use Prim.Native.Nat.{ℕ, _+_, _*_, _≤_}
 use native.Mathlib.Omega.{arith}
 use mathlib.Core.Path.{_≡_, refl, sym, ap, _∙_}
-use mathlib.Core.Logic.{_≢_}
-use mathlib.Core.Bool.{Bool, true, false, not}
+use mathlib.Core.Bool.{Bool, true, false}
 use mathlib.Core.List.{List, [], _++_, append-assoc, append-nil}
 use lib.ListN.{length, take, drop, drop-of-length-le, length-append}
 use lib.Seq.{take-at, drop-at, length-take-le}
-use borrow.Author.Tests.{ne-eqb, not-true, not-false}
 use Rattle.model.specs.Choice.{choose}
 use Rattle.replay_words.specs.Words.{lines, mark-length, without-mark}
 use Rattle.replay_rows.specs.World.{longest-line}
-use Rattle.replay_rows.specs.Replayed.{answers, missed, missed-in, replayed, status}
+use Rattle.replay_rows.specs.Replayed.{answers, missed, missed-in, replayed}
 use Rattle.replay_loop.specs.Standing.{coming, in-use, to-miss, Ended, Held, Next, Went}
 use Rattle.replay_loop.specs.declared.State.{State}
 
@@ -129,14 +127,3 @@ handed-in-part e calls =
       all = λ q. let z : _≡_ {A = ℕ} 0 1 = ap (λ (b : Bool). choose b 1 0) q in absurd (omega arith);
       counted = λ q. let z : _≡_ {A = ℕ} 0 1 = ap (λ (b : Bool). choose b 1 0) q in absurd (omega arith);
     }
-
--- the status
-module _ (w : Bool) (m : ℕ) where
-  pub status-unwritten : not w ≡ true → 1 ≡ status w m
-  status-unwritten q = rw (not-true w q)
-
-  pub status-heard : not w ≡ false → m ≡ 0 → 0 ≡ status w m
-  status-heard q z = rw (not-false w q, z)
-
-  pub status-missed : not w ≡ false → m ≢ 0 → 2 ≡ status w m
-  status-missed q n = rw (not-false w q, ne-eqb m 0 n)

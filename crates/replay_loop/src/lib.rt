@@ -3,9 +3,8 @@ ghost use mathlib.Core.Path.{_≡_};
 ghost use Prim.Native.Nat.{_+_, _<_, _≤_};
 ghost use lib.ListN.{length};
 ghost use Rattle.replay_rows.specs.Meaning.{meaning, starts};
-ghost use Rattle.buffer.specs.Put.{Put};
-ghost use Rattle.replay_rows.specs.World.{longest, longest-call, longest-line};
-ghost use Rattle.replay_rows.specs.Replayed.{language, shown, status as status-of, unheard as is-unheard};
+ghost use Rattle.replay_rows.specs.World.{longest, longest-line};
+ghost use Rattle.replay_rows.specs.Replayed.{language};
 ghost use Rattle.replay_loop.specs.Standing.{in-use, Ended, Held, LineRead, Next, Stepped, Refused, Went};
 use libc::STDOUT_FILENO;
 use model::Starting;
@@ -156,35 +155,6 @@ fn read_line(rows: &[u8], calls: &[u8], from: usize, echo: bool, numbers: &mut [
     }
 }
 
-// A line's number and call before its answer, if they are to be shown.
-fn show_call(
-    rows: &[u8],
-    echo: bool,
-    row: usize,
-    numbers: &[u64],
-    number: u64,
-    out: &mut [u8],
-    at: usize,
-) -> usize
-    requires { ⌜ (now rows ≡ language) × (at + longest-call ≤ length (now out)) ⌝ }
-    ensures { λ r. ⌜ Put (shown echo number row (now (numbers .entry))) at (now (out .entry)) (now (out .exit)) r × (r ≤ at + longest-call) ⌝ }
-{
-    if echo {
-        return replay_echo::put_echo(rows, row, numbers, number, out, at);
-    }
-    at
-}
-
-// One if there is no such row, so that its line was not understood.
-fn unheard(row: usize) -> u64
-    ensures { λ r. ⌜ (r ≡ is-unheard row) × (r ≤ 1) ⌝ }
-{
-    if row < 18 {
-        return 0;
-    }
-    1
-}
-
 // The next line of the text.
 fn next_line(
     rows: &[u8],
@@ -206,14 +176,14 @@ fn next_line(
     let mut numbers = [0u64; 8];
     let line = read_line(rows, calls, state.from, echo, &mut numbers);
     let number = state.number + 1;
-    let at = show_call(rows, echo, line.row, &numbers, number, out, state.at);
+    let at = replay_rows::show_call(rows, echo, line.row, &numbers, number, out, state.at);
     let here = State {
         slots: state.slots,
         counters: state.counters,
         items: state.items,
         hand: state.hand,
         number,
-        missed: state.missed + unheard(line.row),
+        missed: state.missed + replay_rows::unheard(line.row),
         from: line.next,
         at,
     };
@@ -279,19 +249,6 @@ pub struct Replayed {
     pub whole: bool,
     pub bytes: u64,
     pub missed: u64,
-}
-
-// The status that tells it.
-pub fn status(done: Replayed) -> u8
-    ensures { λ r. ⌜ r ≡ status-of (done .whole) (done .missed) ⌝ }
-{
-    if !done.whole {
-        return 1;
-    }
-    if done.missed == 0 {
-        return 0;
-    }
-    2
 }
 
 // All portions of a text's answers. A text may begin with a byte order mark.
