@@ -201,7 +201,7 @@ static void lanes(void) {
 
 static void texts(void) {
     for (uint32_t a = 0; a <= 10; a++) {
-        CHECK(strlen(boughladder_refusal_text(a)) > 5);
+        CHECK(strcmp(boughladder_refusal_text(a), boughladder_refusal_text(11)) != 0);
         for (uint32_t b = 0; b < a; b++) CHECK(strcmp(boughladder_refusal_text(a), boughladder_refusal_text(b)) != 0);
     }
     CHECK(strcmp(boughladder_refusal_text(11), "no refusal number") == 0);
