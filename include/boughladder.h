@@ -35,7 +35,8 @@
  *
  * Minutes are counted by the caller. UINT64_MAX is no minute: as a stamp it marks a standing permission.
  *
- * No call takes memory but the three runs and the stack: about 1.8 KB for set, 0.4 KB for any other.
+ * No call takes memory but the three runs and the stack: about 3.2 KB for set, at most 0.4 KB for any other, as
+ * examples/c/stack.c measures it.
  * size_t is 64 bits wide in the archive. On a 32-bit target finding, setting, evicting and listing would be smaller,
  * and there is no archive for one.
  *

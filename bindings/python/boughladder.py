@@ -1,13 +1,16 @@
 """The table inside a grazing gate: animal number to permission with its stamp. For Python 3.8 on, on x86-64 Linux.
 
-    from boughladder import MILKING, Table, lane
+    from boughladder import HOLDING, Refusal, Table, lane
 
     table = Table(buckets=64, counters=16, places=200)
     table.set(4711, 1, now)
-    if lane(table.serve(4711, 720, now)) == MILKING:
-        ...
+    try:
+        where = lane(table.serve(4711, 720, now))
+    except Refusal as refusal:
+        where = HOLDING
+        print(refusal)
 
-A refusal is the exception Refusal, with its number and a sentence. It changes no word of the table.
+A refusal is the exception Refusal, with its number and a sentence: hold the animal. It changes no word of the table.
 
 One call at a time: no call may run while another one writes (fresh, set, delete, evict, serve and the cut forms) on the
 same table. Each Table has a lock and each of its calls takes it, so threads may share it. Two Tables over the same arrays
