@@ -13,8 +13,8 @@
 A refusal is the exception Refusal, with its number and a sentence: hold the animal. It changes no word of the table.
 
 One call at a time: no call may run while another one writes (fresh, set, delete, evict, serve and the cut forms) on the
-same table. Each Table has a lock and each of its calls takes it, so threads may share it. Two Tables over the same arrays
-have two locks: make one.
+same table. Each Table has a lock and each of its calls takes it, so threads may share it. Two Tables over the same
+arrays have two locks: make one.
 
 The library is libboughladder.so, which bindings/python/run links: beside this file, in target/python of the repository,
 or where the environment variable BOUGHLADDER_SO says.

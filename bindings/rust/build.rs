@@ -7,7 +7,10 @@ fn main() {
     let lib = env::var("BOUGHLADDER_LIB").map_or_else(|_| here.join("../../target/staticlib"), PathBuf::from);
     let archive = lib.join("libboughladder.a");
     if !archive.exists() {
-        panic!("{} is missing: run examples/library, or set BOUGHLADDER_LIB to the archive's directory", archive.display());
+        panic!(
+            "{} is missing: run examples/library, or set BOUGHLADDER_LIB to the archive's directory",
+            archive.display()
+        );
     }
     println!("cargo:rerun-if-changed={}", archive.display());
     println!("cargo:rustc-link-search=native={}", lib.display());

@@ -1,4 +1,4 @@
-/* A gate: it makes a table, loads the day's list, serves a few cows, and says why one is held. Run by examples/c/run. */
+/* A gate: it makes a table, loads the day's list, serves a few cows, and says why one is held. Run by run. */
 #include <inttypes.h>
 #include <stdio.h>
 

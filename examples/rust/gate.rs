@@ -20,7 +20,9 @@ fn main() -> Result<(), Refusal> {
         let said = table.serve(animal, 720, now);
         match said {
             Ok(reading) => println!("minute {now}: cow {animal}: {:?}, {reading:?}", lane(said)),
-            Err(refusal) => println!("minute {now}: cow {animal}: {:?}, refusal {}, {refusal}", lane(said), refusal.number()),
+            Err(refusal) => {
+                println!("minute {now}: cow {animal}: {:?}, refusal {}, {refusal}", lane(said), refusal.number())
+            }
         }
     }
 
@@ -34,6 +36,10 @@ fn main() -> Result<(), Refusal> {
     assert_eq!(table.delete(gone.victim), Err(Refusal::Nobody));
     let mut buffer = [0; boughladder::list_bytes(3)];
     let records = table.list(&mut buffer)?;
-    println!("gate: the list has {} records: {:?}", records.len(), records.map(|record| record.animal).collect::<Vec<_>>());
+    println!(
+        "gate: the list has {} records: {:?}",
+        records.len(),
+        records.map(|record| record.animal).collect::<Vec<_>>()
+    );
     Ok(())
 }

@@ -217,7 +217,11 @@ impl Iterator for Records<'_> {
         let (record, rest) = self.bytes.split_at(RECORD_BYTES);
         self.bytes = rest;
         let number = |bytes: &[u8]| bytes.iter().rev().fold(0, |number, byte| number << 8 | u64::from(*byte));
-        Some(Record { animal: number(&record[..8]), permission: number(&record[8..12]) as u32, stamp: number(&record[12..]) })
+        Some(Record {
+            animal: number(&record[..8]),
+            permission: number(&record[8..12]) as u32,
+            stamp: number(&record[12..]),
+        })
     }
 
     fn size_hint(&self) -> (usize, Option<usize>) {

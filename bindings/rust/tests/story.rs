@@ -222,7 +222,10 @@ fn a_damaged_word() {
 #[test]
 fn lanes() {
     let by = |permission| lane(fresh(permission, 0));
-    assert_eq!([by(0), by(1), by(2), by(3), by(4)], [Lane::Holding, Lane::Milking, Lane::Grazing, Lane::Milking, Lane::Holding]);
+    assert_eq!(
+        [by(0), by(1), by(2), by(3), by(4)],
+        [Lane::Holding, Lane::Milking, Lane::Grazing, Lane::Milking, Lane::Holding]
+    );
     for held in [Ok(Reading::Absent), Ok(Reading::Old { age: 1 }), Ok(Reading::Ahead), Err(Refusal::Busy)] {
         assert_eq!(lane(held), Lane::Holding);
     }
