@@ -108,6 +108,13 @@ class Story(unittest.TestCase):
         self.assertEqual(records(table.list()), [Record(4711, 1, 900), Record(4712, 0, 900), Record(900, 2, STANDING),
                                                  Record(4714, 1, 900), Record(4715, 1, 100)])
 
+    def test_records(self):
+        table = made(8, 1, 4)
+        table.set(1, 5, 2)
+        self.assertEqual(table.list().hex(), '01000000000000000500000002' + 14 * '0')
+        every = bytes.fromhex('0807060504030201fcfdfeff8877665544332291')
+        self.assertEqual(records(every), [Record(0x0102030405060708, 0xfffefdfc, 0x9122334455667788)])
+
     def test_room_is_made(self):
         table = made(16, 4, 36)
         for animal in (358, 687, 1012, 1334, 248, 734, 913, 1710):
@@ -193,24 +200,15 @@ class Story(unittest.TestCase):
         self.assertEqual(table.list(), b'')
         self.assertRaises(TypeError, lambda: Table.over(slots=table.items, counters=table.counters, items=table.items))
 
-    def test_threads(self):
-        """A table has its lock: a permission is never read with another one's stamp."""
-        table, wrong, over = made(8, 1, 4), [], threading.Event()
-        table.set(1, 0, 0)
-
-        def antenna():
-            while not over.is_set():
-                said = table.read(1, LARGEST_LIMIT, 10000)
-                if said.permission + said.age != 10000:
-                    wrong.append(said)
-
-        reader = threading.Thread(target=antenna)
-        reader.start()
-        for day in range(5000):
-            table.set(1, day, day)
-        over.set()
-        reader.join()
-        self.assertEqual(wrong, [])
+    def test_one_call_at_a_time(self):
+        table = made(8, 1, 4)
+        for call, numbers in ((table.set, (1, 1, 100)), (table.read, (1, 720, 100)), (table.list, ())):
+            task = threading.Thread(target=call, args=numbers)
+            with table._lock:
+                task.start()
+                task.join(0.1)
+                self.assertTrue(task.is_alive())
+            task.join()
 
 
 if __name__ == '__main__':

@@ -126,6 +126,20 @@ fn the_network_drops() {
 }
 
 #[test]
+fn records() {
+    let mut memory = lent(slots(2), 1, items(1));
+    let mut table = memory.table();
+    table.fresh().unwrap();
+    table.set(1, 5, 2).unwrap();
+    let mut buffer = [0; 20];
+    let list = table.list(&mut buffer).unwrap();
+    assert_eq!(list.bytes(), [1, 0, 0, 0, 0, 0, 0, 0, 5, 0, 0, 0, 2, 0, 0, 0, 0, 0, 0, 0]);
+    let every = [8, 7, 6, 5, 4, 3, 2, 1, 0xfc, 0xfd, 0xfe, 0xff, 0x88, 0x77, 0x66, 0x55, 0x44, 0x33, 0x22, 0x91];
+    let record = Record { animal: 0x0102030405060708, permission: 0xfffefdfc, stamp: 0x9122334455667788 };
+    assert_eq!(Records::of(&every).collect::<Vec<_>>(), [record]);
+}
+
+#[test]
 fn room_is_made() {
     let mut memory = lent(slots(4), 4, items(9));
     let mut table = memory.table();
