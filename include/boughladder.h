@@ -1,6 +1,15 @@
 /*
- * boughladder.h: the table inside a grazing gate, for C99 and C++ on x86-64 Linux.
- * Link with target/staticlib/libboughladder.a, which `rt staticlib boughladder` writes; it needs memset and nothing else.
+ * boughladder.h: the table inside a grazing gate, for C99 and C++11 on.
+ * Link with libboughladder.a, which is for x86-64 Linux and needs memset and memcpy and nothing else.
+ *
+ *     static uint32_t slots[BOUGHLADDER_SLOTS(64)], counters[16];
+ *     static uint64_t items[BOUGHLADDER_ITEMS(200)];
+ *     BoughladderTable table = BOUGHLADDER_TABLE(slots, counters, items);
+ *
+ *     refusal = boughladder_table_fresh(&table);
+ *     stored = boughladder_table_set(&table, 4711, 1, now);
+ *     reading = boughladder_table_serve(&table, 4711, 720, now);
+ *     if (boughladder_lane(reading) == BOUGHLADDER_MILKING) open_milking_gate();
  *
  * A table is three runs of memory that the caller lends to every call, each as a pointer and its length in words:
  *
@@ -10,22 +19,90 @@
  *
  * The runs are aligned for their type and don't overlap. The library keeps nothing between calls. Any length and any
  * contents are safe: a call ends, touches nothing outside the runs, and says what it found. A wrong length is refusal 1.
+ * A length of 0 is a wrong length too, and its pointer may be NULL. A list's buffer may be NULL with length 0.
  *
- * One task writes: fresh, set, delete, evict and serve are its calls. Serve writes too, one word (that the animal was
- * here lately), so the antenna task may read, find and list, and may not serve. Every call takes the memory to stand
- * still while it runs, except for its own stores.
+ * What opens a gate. "Fresh" alone opens nothing: a fresh permission 0 means hold. Of a fresh permission, bit 0 means
+ * milking, else bit 1 grazing, else holding. Every other answer and every refusal means holding. boughladder_lane says
+ * all of this.
+ *
+ * One call at a time. No call, not even read, find or list, may run while a writing call runs on the same table.
+ * Fresh, set, delete, evict and their cut forms write, and so does serve. Put one mutex around every call, as
+ * examples/c/antenna.c does; examples/c/torn.c shows the wrong answers that come without it. Reads, finds and lists
+ * beside each other are fine. Refusal 8 (busy) is no lock: it tells of a write that was cut off, not of one under way.
  *
  * The cut forms make only the first k stores of their call and answer as the whole call does: they show what a loss of
  * power leaves. A counter left odd by a cut makes its animals busy (refusal 8), and they stay busy until fresh.
  *
  * Minutes are counted by the caller. UINT64_MAX is no minute: as a stamp it marks a standing permission.
- * These declarations are checked by examples/c/check; the calls themselves are proved in crates/.
+ *
+ * No call takes memory but the three runs and the stack: about 3.2 KB for set, at most 0.4 KB for any other, as
+ * examples/c/stack.c measures it.
+ * size_t is 64 bits wide in the archive. On a 32-bit target finding, setting, evicting and listing would be smaller,
+ * and there is no archive for one.
+ *
+ * These declarations are tried by examples/c/check; the calls themselves are proved.
  */
 #ifndef BOUGHLADDER_H
 #define BOUGHLADDER_H
 
 #include <stddef.h>
 #include <stdint.h>
+
+/* This header's version, as text and as numbers. The archive has none to ask for: ship both from one release. */
+#define BOUGHLADDER_VERSION "1.0.0"
+#define BOUGHLADDER_VERSION_MAJOR 1
+#define BOUGHLADDER_VERSION_MINOR 0
+#define BOUGHLADDER_VERSION_PATCH 0
+
+/* Sizes: words of slots for n buckets, words of items for m places, bytes of a whole list of m places. V counters are
+   V words. */
+#define BOUGHLADDER_SLOTS(n) ((size_t)4 * (n))
+#define BOUGHLADDER_ITEMS(m) ((size_t)4 * (m))
+#define BOUGHLADDER_RECORD_BYTES 20
+#define BOUGHLADDER_LIST_BYTES(m) ((size_t)BOUGHLADDER_RECORD_BYTES * (m))
+
+/* Limits. */
+#define BOUGHLADDER_LEAST_N 2
+#define BOUGHLADDER_MOST_N 2048
+#define BOUGHLADDER_LEAST_V 1
+#define BOUGHLADDER_MOST_V 1024
+#define BOUGHLADDER_LEAST_M 1
+#define BOUGHLADDER_MOST_M 4096
+#define BOUGHLADDER_LARGEST_LIMIT 10080 /* minutes: a week */
+#define BOUGHLADDER_STANDING UINT64_MAX /* the stamp of a standing permission; no minute */
+
+/* Permission bits. The other bits are the caller's. */
+#define BOUGHLADDER_MAY_MILK 1u
+#define BOUGHLADDER_MAY_GRAZE 2u
+
+/* Whether fresh takes a table of n buckets, v counters and m places. Its arguments are evaluated more than once. */
+#define BOUGHLADDER_GOOD_SHAPE(n, v, m)                                                            \
+    ((n) >= BOUGHLADDER_LEAST_N && (n) <= BOUGHLADDER_MOST_N && ((n) & ((n)-1)) == 0 &&            \
+     (v) >= BOUGHLADDER_LEAST_V && (v) <= BOUGHLADDER_MOST_V && (m) >= BOUGHLADDER_LEAST_M &&      \
+     (m) <= BOUGHLADDER_MOST_M)
+
+/* The same when it is compiled, in a file or a function: BOUGHLADDER_CHECK_SHAPE(64, 16, 200); */
+#if defined __cplusplus
+#define BOUGHLADDER_CHECK_SHAPE(n, v, m) static_assert(BOUGHLADDER_GOOD_SHAPE(n, v, m), "no shape of a table")
+#elif defined __STDC_VERSION__ && __STDC_VERSION__ >= 201112L
+#define BOUGHLADDER_CHECK_SHAPE(n, v, m) _Static_assert(BOUGHLADDER_GOOD_SHAPE(n, v, m), "no shape of a table")
+#else
+#define BOUGHLADDER_CHECK_SHAPE(n, v, m) \
+    void boughladder_shape_(char (*no_shape_of_a_table)[BOUGHLADDER_GOOD_SHAPE(n, v, m) ? 1 : -1])
+#endif
+
+/* A reply that is not looked at is a warning: a refusal would go unseen. -DBOUGHLADDER_MUST_USE= turns it off. */
+#ifndef BOUGHLADDER_MUST_USE
+#if defined __cplusplus && __cplusplus >= 201703L
+#define BOUGHLADDER_MUST_USE [[nodiscard]]
+#elif !defined __cplusplus && defined __STDC_VERSION__ && __STDC_VERSION__ > 201710L
+#define BOUGHLADDER_MUST_USE [[nodiscard]]
+#elif defined __GNUC__
+#define BOUGHLADDER_MUST_USE __attribute__((__warn_unused_result__))
+#else
+#define BOUGHLADDER_MUST_USE
+#endif
+#endif
 
 #ifdef __cplusplus
 extern "C" {
@@ -54,6 +131,9 @@ enum BoughladderKind {
     BOUGHLADDER_AHEAD = 3,    /* a stamp later than now */
     BOUGHLADDER_AT_PLACE = 9  /* find: the animal is held at a place */
 };
+
+/* Where an animal goes. */
+enum BoughladderLane { BOUGHLADDER_HOLDING = 0, BOUGHLADDER_MILKING = 1, BOUGHLADDER_GRAZING = 2 };
 
 /* Read and serve, in 16 bytes: two registers. */
 typedef struct BoughladderReading {
@@ -91,64 +171,86 @@ typedef struct BoughladderListing {
     size_t count;  /* records written, 20 bytes each */
 } BoughladderListing;
 
+/* One record of a list. */
+typedef struct BoughladderRecord {
+    uint64_t animal;
+    uint32_t permission;
+    uint64_t stamp;  /* a minute, or BOUGHLADDER_STANDING */
+} BoughladderRecord;
+
+/*
+ * The plain calls: six arguments lend the table. The calls over a BoughladderTable below do the same with one.
+ */
+
 /* Makes a table of the three runs: 0 in every word. The reply is the refusal number, 0 or 1.
    It is the first call on any memory, and the only one that helps a busy counter. */
+BOUGHLADDER_MUST_USE
 uint32_t boughladder_fresh(uint32_t *slots, size_t slots_length, uint32_t *counters, size_t counters_length,
                            uint64_t *items, size_t items_length);
 
 /* Says whether the animal's permission is fresh: held, not ahead of now, and at most limit minutes old; or standing.
    Refusals 1, 2, 3, 8, 4, in this order. */
+BOUGHLADDER_MUST_USE
 BoughladderReading boughladder_read(const uint32_t *slots, size_t slots_length, const uint32_t *counters,
                                     size_t counters_length, const uint64_t *items, size_t items_length,
                                     uint64_t animal, uint64_t limit, uint64_t now);
 
 /* Read, for a gate that then opens: where the answer is fresh it also stores 1 in the place's recent word.
    Refusals as read. */
+BOUGHLADDER_MUST_USE
 BoughladderReading boughladder_serve(const uint32_t *slots, size_t slots_length, const uint32_t *counters,
                                      size_t counters_length, uint64_t *items, size_t items_length, uint64_t animal,
                                      uint64_t limit, uint64_t now);
 
 /* Says at which place the animal is held, whatever its age.
    Refusals 1, 2, 8, 4. */
+BOUGHLADDER_MUST_USE
 BoughladderFinding boughladder_find(const uint32_t *slots, size_t slots_length, const uint32_t *counters,
                                     size_t counters_length, const uint64_t *items, size_t items_length,
                                     uint64_t animal);
 
 /* Stores a permission with the stamp now, or as a standing one where standing is not 0, over the one that is held.
    Refusals 1, 2, 3, 8, 4; then, for an animal that is not held yet, 5, 4 and 6. */
+BOUGHLADDER_MUST_USE
 BoughladderSetting boughladder_set(uint32_t *slots, size_t slots_length, uint32_t *counters, size_t counters_length,
                                    uint64_t *items, size_t items_length, uint64_t animal, uint32_t permission,
                                    uint64_t now, uint32_t standing);
 
 /* Set, of which only the first k stores are made: a new entry takes 7 stores and 4 more for each move, an update 5.
    Reply and refusals as set, for every k. */
+BOUGHLADDER_MUST_USE
 BoughladderSetting boughladder_set_cut(uint32_t *slots, size_t slots_length, uint32_t *counters,
                                        size_t counters_length, uint64_t *items, size_t items_length, uint64_t animal,
                                        uint32_t permission, uint64_t now, uint32_t standing, uint64_t k);
 
 /* Takes the animal's entry away. The reply is the refusal number, 0 for success.
    Refusals 1, 2, 8, 4, 7. */
+BOUGHLADDER_MUST_USE
 uint32_t boughladder_delete(uint32_t *slots, size_t slots_length, uint32_t *counters, size_t counters_length,
                             uint64_t *items, size_t items_length, uint64_t animal);
 
 /* Delete, of which only the first k stores of 7 are made.
    Reply and refusals as delete, for every k. */
+BOUGHLADDER_MUST_USE
 uint32_t boughladder_delete_cut(uint32_t *slots, size_t slots_length, uint32_t *counters, size_t counters_length,
                                 uint64_t *items, size_t items_length, uint64_t animal, uint64_t k);
 
 /* Takes the first animal from the hand on that was not here lately, and clears the recent words that it passes (CLOCK).
    The hand, 0 to M - 1, is kept by the caller: 0 after fresh, then the reply's. Refusals 1, 7, 10, 8, 4. */
+BOUGHLADDER_MUST_USE
 BoughladderEvicting boughladder_evict(uint32_t *slots, size_t slots_length, uint32_t *counters,
                                       size_t counters_length, uint64_t *items, size_t items_length, size_t hand);
 
 /* Evict, of which only the first k stores are made: one for each recent word that it clears, then 7.
    Reply, hand and refusals as evict, for every k. */
+BOUGHLADDER_MUST_USE
 BoughladderEvicting boughladder_evict_cut(uint32_t *slots, size_t slots_length, uint32_t *counters,
                                           size_t counters_length, uint64_t *items, size_t items_length, size_t hand,
                                           uint64_t k);
 
 /* Writes the places that are taken, in order, 20 bytes each, low byte first: animal 8, permission 4, stamp 8.
    The bytes behind them stay as they were. Refusals 1, 9. */
+BOUGHLADDER_MUST_USE
 BoughladderListing boughladder_list(const uint32_t *slots, size_t slots_length, const uint32_t *counters,
                                     size_t counters_length, const uint64_t *items, size_t items_length,
                                     uint8_t *buffer, size_t buffer_length);
@@ -156,6 +258,174 @@ BoughladderListing boughladder_list(const uint32_t *slots, size_t slots_length, 
 /* One byte of the 32-bit FNV-1a hash, which decides an animal's buckets: start with h = 2166136261.
    For tests of a cabinet against the published vectors. */
 uint32_t boughladder_fnv_byte(uint32_t h, uint8_t byte);
+
+/* The lent memory in one piece. Through a pointer to const one may read, find and list; for any other call that is a
+   warning, in C++ an error. */
+typedef struct BoughladderTable {
+    uint32_t *slots;
+    size_t slots_length;
+    uint32_t *counters;
+    size_t counters_length;
+    uint64_t *items;
+    size_t items_length;
+} BoughladderTable;
+
+/* A table of three arrays, to begin a BoughladderTable with; it works out the lengths.
+   Slots and counters that are swapped do not compile. Neither do a pointer for an array, an array of another type, a
+   wrong length, and more counters than buckets. The library takes such counters, but no call looks at those behind the
+   first N; to shut them out is what tells a swap. Memory from malloc: fill the fields by name. */
+#define BOUGHLADDER_TABLE(slots, counters, items)                                                                 \
+    {                                                                                                             \
+        (slots), BOUGHLADDER_WORDS_(slots, uint32_t), (counters), BOUGHLADDER_WORDS_(counters, uint32_t), (items), \
+            BOUGHLADDER_WORDS_(items, uint64_t) +                                                                 \
+                BOUGHLADDER_DEMAND_(BOUGHLADDER_GOOD_SHAPE(sizeof(slots) / 16, sizeof(counters) / 4,              \
+                                                           sizeof(items) / 32) &&                                 \
+                                        sizeof(slots) % 16 == 0 && sizeof(items) % 32 == 0,                       \
+                                    no_shape_of_a_table) +                                                        \
+                BOUGHLADDER_DEMAND_(sizeof(counters) / 4 <= sizeof(slots) / 16, slots_and_counters_swapped)       \
+    }
+
+/* The words of an array; of a pointer it does not compile. */
+#define BOUGHLADDER_WORDS_(array, type)                                                                         \
+    (sizeof(array) / sizeof(type) +                                                                             \
+     BOUGHLADDER_DEMAND_(sizeof(*(1 ? &(array) : (type(*)[sizeof(array) / sizeof(type)])0)) == sizeof(array), \
+                         not_an_array_of_##type))
+
+/* 0; or an error that shows the name, in C, where the fact does not hold. */
+#ifdef __cplusplus
+#define BOUGHLADDER_DEMAND_(fact, name) (0 * sizeof(char[(fact) ? 1 : -1]))
+#else
+#define BOUGHLADDER_DEMAND_(fact, name) (0 * sizeof(struct { char name[(fact) ? 1 : -1]; }))
+#endif
+
+/* The parts of a table, as the plain calls take them. */
+#define BOUGHLADDER_LENT_(t) \
+    (t)->slots, (t)->slots_length, (t)->counters, (t)->counters_length, (t)->items, (t)->items_length
+
+/*
+ * The calls over a table. Replies and refusals are those of the plain call of the same name.
+ */
+
+BOUGHLADDER_MUST_USE
+static inline uint32_t boughladder_table_fresh(BoughladderTable *table) {
+    return boughladder_fresh(BOUGHLADDER_LENT_(table));
+}
+
+BOUGHLADDER_MUST_USE
+static inline BoughladderReading boughladder_table_read(const BoughladderTable *table, uint64_t animal, uint64_t limit,
+                                                        uint64_t now) {
+    return boughladder_read(BOUGHLADDER_LENT_(table), animal, limit, now);
+}
+
+BOUGHLADDER_MUST_USE
+static inline BoughladderReading boughladder_table_serve(BoughladderTable *table, uint64_t animal, uint64_t limit,
+                                                         uint64_t now) {
+    return boughladder_serve(BOUGHLADDER_LENT_(table), animal, limit, now);
+}
+
+BOUGHLADDER_MUST_USE
+static inline BoughladderFinding boughladder_table_find(const BoughladderTable *table, uint64_t animal) {
+    return boughladder_find(BOUGHLADDER_LENT_(table), animal);
+}
+
+/* With the stamp now. */
+BOUGHLADDER_MUST_USE
+static inline BoughladderSetting boughladder_table_set(BoughladderTable *table, uint64_t animal, uint32_t permission,
+                                                       uint64_t now) {
+    return boughladder_set(BOUGHLADDER_LENT_(table), animal, permission, now, 0);
+}
+
+/* Without a minute: a standing permission is always fresh. */
+BOUGHLADDER_MUST_USE
+static inline BoughladderSetting boughladder_table_set_standing(BoughladderTable *table, uint64_t animal,
+                                                                uint32_t permission) {
+    return boughladder_set(BOUGHLADDER_LENT_(table), animal, permission, 0, 1);
+}
+
+BOUGHLADDER_MUST_USE
+static inline BoughladderSetting boughladder_table_set_cut(BoughladderTable *table, uint64_t animal,
+                                                           uint32_t permission, uint64_t now, uint64_t k) {
+    return boughladder_set_cut(BOUGHLADDER_LENT_(table), animal, permission, now, 0, k);
+}
+
+BOUGHLADDER_MUST_USE
+static inline BoughladderSetting boughladder_table_set_standing_cut(BoughladderTable *table, uint64_t animal,
+                                                                    uint32_t permission, uint64_t k) {
+    return boughladder_set_cut(BOUGHLADDER_LENT_(table), animal, permission, 0, 1, k);
+}
+
+BOUGHLADDER_MUST_USE
+static inline uint32_t boughladder_table_delete(BoughladderTable *table, uint64_t animal) {
+    return boughladder_delete(BOUGHLADDER_LENT_(table), animal);
+}
+
+BOUGHLADDER_MUST_USE
+static inline uint32_t boughladder_table_delete_cut(BoughladderTable *table, uint64_t animal, uint64_t k) {
+    return boughladder_delete_cut(BOUGHLADDER_LENT_(table), animal, k);
+}
+
+BOUGHLADDER_MUST_USE
+static inline BoughladderEvicting boughladder_table_evict(BoughladderTable *table, size_t hand) {
+    return boughladder_evict(BOUGHLADDER_LENT_(table), hand);
+}
+
+BOUGHLADDER_MUST_USE
+static inline BoughladderEvicting boughladder_table_evict_cut(BoughladderTable *table, size_t hand, uint64_t k) {
+    return boughladder_evict_cut(BOUGHLADDER_LENT_(table), hand, k);
+}
+
+BOUGHLADDER_MUST_USE
+static inline BoughladderListing boughladder_table_list(const BoughladderTable *table, uint8_t *buffer,
+                                                        size_t buffer_length) {
+    return boughladder_list(BOUGHLADDER_LENT_(table), buffer, buffer_length);
+}
+
+/*
+ * What to make of the replies.
+ */
+
+/* The lane of an animal by the reply to its read or serve: holding for every refusal and for all that is not fresh. */
+static inline enum BoughladderLane boughladder_lane(BoughladderReading reading) {
+    if (reading.refusal != BOUGHLADDER_OK || reading.kind != BOUGHLADDER_FRESH) return BOUGHLADDER_HOLDING;
+    if ((reading.permission & BOUGHLADDER_MAY_MILK) != 0) return BOUGHLADDER_MILKING;
+    if ((reading.permission & BOUGHLADDER_MAY_GRAZE) != 0) return BOUGHLADDER_GRAZING;
+    return BOUGHLADDER_HOLDING;
+}
+
+/* A refusal number as a short sentence. */
+static inline const char *boughladder_refusal_text(uint32_t refusal) {
+    switch (refusal) {
+        case BOUGHLADDER_OK: return "not refused";
+        case BOUGHLADDER_BAD_SHAPE: return "a length of the lent memory is wrong, or the hand is too large";
+        case BOUGHLADDER_NO_ANIMAL: return "the animal number is 0";
+        case BOUGHLADDER_BAD_TIME: return "the limit is above 10080 minutes, or the clock gave no minute";
+        case BOUGHLADDER_DAMAGED: return "a damaged word was read";
+        case BOUGHLADDER_NO_PLACE: return "no vacant place for a new animal";
+        case BOUGHLADDER_NO_ROOM: return "no room within four moves for a new animal";
+        case BOUGHLADDER_NOBODY: return "the animal to delete is absent, or nobody is there to evict";
+        case BOUGHLADDER_BUSY: return "busy: a write was cut off";
+        case BOUGHLADDER_SHORT_BUFFER: return "the buffer is too short for the list";
+        case BOUGHLADDER_NO_VICTIM: return "the hand found no victim";
+        default: return "no refusal number";
+    }
+}
+
+/* A number of a list's bytes, low byte first on every machine. */
+static inline uint64_t boughladder_number_(const uint8_t *bytes, unsigned count) {
+    uint64_t number = 0;
+    while (count > 0) number = number << 8 | bytes[--count];
+    return number;
+}
+
+/* Record `which` of a list, from 0 on; the list may stand at any address. It must have been written: which < count. */
+static inline BoughladderRecord boughladder_record(const uint8_t *list, size_t which) {
+    const uint8_t *bytes = list + BOUGHLADDER_RECORD_BYTES * which;
+    BoughladderRecord record;
+    record.animal = boughladder_number_(bytes, 8);
+    record.permission = (uint32_t)boughladder_number_(bytes + 8, 4);
+    record.stamp = boughladder_number_(bytes + 12, 8);
+    return record;
+}
 
 #ifdef __cplusplus
 }

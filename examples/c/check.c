@@ -1,7 +1,8 @@
 /*
  * Checks include/boughladder.h and libboughladder.a against each other: the layout of each struct, each call with known
- * answers (document 01's examples), and garbage memory of any length in blocks of their own, so that valgrind sees a
- * read or a write outside. `check ROUNDS` prints one line, `N checks passed`, or the checks that failed.
+ * answers (the order's examples), the sizes and limits, the calls over a table beside the plain ones, and garbage
+ * memory of any length in blocks of their own, so that valgrind sees a read or a write outside.
+ * `check ROUNDS` prints one line, `N checks passed`, or the checks that failed.
  */
 #include <stdio.h>
 #include <stdlib.h>
@@ -127,6 +128,109 @@ static void shapes(void) {
     CHECK(shape(8, 1, 6) == 1);
     CHECK(shape(8, 1, 16384) == 0);
     CHECK(shape(8, 1, 16388) == 1);
+}
+
+/* The sizes and limits of the header are those of the library. */
+static void sizes(void) {
+    uint64_t items[BOUGHLADDER_ITEMS(2)];
+    uint32_t slots[BOUGHLADDER_SLOTS(4)], counters[3];
+    BoughladderTable t = BOUGHLADDER_TABLE(slots, counters, items);
+    char version[32];
+    BOUGHLADDER_CHECK_SHAPE(4, 3, 2);
+    for (size_t n = 0; n <= 2050; n++)
+        CHECK((shape(BOUGHLADDER_SLOTS(n), 1, 4) == 0) == BOUGHLADDER_GOOD_SHAPE(n, 1u, 1u));
+    for (size_t v = 0; v <= 1030; v++) CHECK((shape(8, v, 4) == 0) == BOUGHLADDER_GOOD_SHAPE(2u, v, 1u));
+    for (size_t m = 0; m <= 4100; m += m == 8 ? 4080 : 1)
+        CHECK((shape(8, 1, BOUGHLADDER_ITEMS(m)) == 0) == BOUGHLADDER_GOOD_SHAPE(2u, 1u, m));
+    CHECK(!BOUGHLADDER_GOOD_SHAPE(4096, 1, 1) && shape(16384, 1, 4) == BOUGHLADDER_BAD_SHAPE);
+    CHECK(t.slots == slots && t.slots_length == 16 && t.counters == counters && t.counters_length == 3);
+    CHECK(t.items == items && t.items_length == 8);
+    CHECK(boughladder_table_fresh(&t) == 0);
+    CHECK(boughladder_table_set(&t, 7, 5, 0).refusal == 0);
+    CHECK(reads(boughladder_table_read(&t, 7, BOUGHLADDER_LARGEST_LIMIT, 1), 0, BOUGHLADDER_FRESH, 5, 1));
+    CHECK(boughladder_table_read(&t, 7, BOUGHLADDER_LARGEST_LIMIT + 1, 1).refusal == BOUGHLADDER_BAD_TIME);
+    CHECK(boughladder_table_read(&t, 7, 0, BOUGHLADDER_STANDING).refusal == BOUGHLADDER_BAD_TIME);
+    CHECK(boughladder_table_set_standing(&t, 7, 5).refusal == 0 && items[2] == BOUGHLADDER_STANDING);
+    CHECK(reads(boughladder_table_read(&t, 7, 0, 0), 0, BOUGHLADDER_FRESH, 5, 0));
+    sprintf(version, "%d.%d.%d", BOUGHLADDER_VERSION_MAJOR, BOUGHLADDER_VERSION_MINOR, BOUGHLADDER_VERSION_PATCH);
+    CHECK(strcmp(version, BOUGHLADDER_VERSION) == 0);
+}
+
+/* A length of 0 with no memory is a wrong length; a list of nobody needs no buffer. */
+static void nothing_lent(void) {
+    Table t = lend(8, 1, 4);
+    BoughladderTable none = {NULL, 0, NULL, 0, NULL, 0}, two = {t.slots, t.s, t.counters, t.c, NULL, 0};
+    BoughladderTable *lent[2] = {&none, &two};
+    uint8_t record[BOUGHLADDER_RECORD_BYTES];
+    for (int k = 0; k < 2; k++) {
+        CHECK(boughladder_table_fresh(lent[k]) == BOUGHLADDER_BAD_SHAPE);
+        CHECK(reads(boughladder_table_read(lent[k], 1, 0, 0), BOUGHLADDER_BAD_SHAPE, 0, 0, 0));
+        CHECK(reads(boughladder_table_serve(lent[k], 1, 0, 0), BOUGHLADDER_BAD_SHAPE, 0, 0, 0));
+        CHECK(finds(boughladder_table_find(lent[k], 1), BOUGHLADDER_BAD_SHAPE, 0, 0));
+        CHECK(sets(boughladder_table_set(lent[k], 1, 1, 1), BOUGHLADDER_BAD_SHAPE, 0, 0));
+        CHECK(sets(boughladder_table_set_cut(lent[k], 1, 1, 1, 1), BOUGHLADDER_BAD_SHAPE, 0, 0));
+        CHECK(boughladder_table_delete(lent[k], 1) == BOUGHLADDER_BAD_SHAPE);
+        CHECK(boughladder_table_delete_cut(lent[k], 1, 1) == BOUGHLADDER_BAD_SHAPE);
+        CHECK(evicts(boughladder_table_evict(lent[k], 0), BOUGHLADDER_BAD_SHAPE, 0, 0, 0));
+        CHECK(evicts(boughladder_table_evict_cut(lent[k], 0, 1), BOUGHLADDER_BAD_SHAPE, 0, 0, 0));
+        CHECK(lists(boughladder_table_list(lent[k], NULL, 0), BOUGHLADDER_BAD_SHAPE, 0));
+    }
+    CHECK(boughladder_fresh(LENT(t)) == 0);
+    CHECK(lists(boughladder_list(LENT(t), NULL, 0), 0, 0));
+    CHECK(boughladder_set(LENT(t), 1, 1, 1, 0).refusal == 0);
+    CHECK(lists(boughladder_list(LENT(t), NULL, 0), BOUGHLADDER_SHORT_BUFFER, 0));
+    CHECK(lists(boughladder_list(LENT(t), record, sizeof record), 0, 1));
+    give_back(&t);
+}
+
+/* Only a fresh permission leads anywhere, and only by its bits. */
+static void lanes(void) {
+    for (unsigned refusal = 0; refusal <= 11; refusal++)
+        for (unsigned kind = 0; kind <= 9; kind++)
+            for (uint32_t permission = 0; permission < 16; permission++) {
+                /* The other bits say nothing. */
+                uint32_t word = permission ^ (kind % 2 ? 0xfffffff0u : 0);
+                BoughladderReading r = {(uint16_t)refusal, (uint16_t)kind, word, 0};
+                int fresh = refusal == 0 && kind == 1;
+                CHECK(boughladder_lane(r) == (!fresh                ? BOUGHLADDER_HOLDING
+                                              : permission % 2 == 1 ? BOUGHLADDER_MILKING
+                                              : permission % 4 == 2 ? BOUGHLADDER_GRAZING
+                                                                    : BOUGHLADDER_HOLDING));
+            }
+}
+
+static void texts(void) {
+    for (uint32_t a = 0; a <= 10; a++) {
+        CHECK(strcmp(boughladder_refusal_text(a), boughladder_refusal_text(11)) != 0);
+        for (uint32_t b = 0; b < a; b++) CHECK(strcmp(boughladder_refusal_text(a), boughladder_refusal_text(b)) != 0);
+    }
+    CHECK(strcmp(boughladder_refusal_text(11), "no refusal number") == 0);
+    CHECK(strcmp(boughladder_refusal_text(UINT32_MAX), "no refusal number") == 0);
+}
+
+/* The decoder, at every alignment: the order's bytes, and each record against its item words. */
+static void records(void) {
+    static const uint8_t bytes[20] = {1, 0, 0, 0, 0, 0, 0, 0, 5, 0, 0, 0, 2, 0, 0, 0, 0, 0, 0, 0};
+    static const uint8_t every[20] = {8,    7,    6,    5,    4,    3,    2,    1,    0xfc, 0xfd,
+                                      0xfe, 0xff, 0x88, 0x77, 0x66, 0x55, 0x44, 0x33, 0x22, 0x91};
+    BoughladderRecord r = boughladder_record(bytes, 0);
+    CHECK(r.animal == 1 && r.permission == 5 && r.stamp == 2);
+    r = boughladder_record(every, 0);
+    CHECK(r.animal == 0x0102030405060708u && r.permission == 0xfffefdfcu && r.stamp == 0x9122334455667788u);
+    for (size_t at = 0; at < 8; at++) {
+        uint8_t *list = (uint8_t *)block(at + BOUGHLADDER_LIST_BYTES(12));
+        Table t = lend(16, 4, BOUGHLADDER_ITEMS(12));
+        CHECK(boughladder_fresh(LENT(t)) == 0);
+        for (uint32_t k = 1; k <= 12; k++)
+            CHECK(boughladder_set(LENT(t), k * 0x123456789u, k * 0x11111u, k, k == 9).refusal == 0);
+        CHECK(lists(boughladder_list(LENT(t), list + at, BOUGHLADDER_LIST_BYTES(12)), 0, 12));
+        for (size_t k = 0; k < 12; k++) {
+            r = boughladder_record(list + at, k);
+            CHECK(r.animal == t.items[4 * k] && r.permission == t.items[4 * k + 1] && r.stamp == t.items[4 * k + 2]);
+        }
+        CHECK(boughladder_record(list + at, 8).stamp == BOUGHLADDER_STANDING);
+        free(list), give_back(&t);
+    }
 }
 
 static void ages(void) {
@@ -313,8 +417,9 @@ static void spoil(Table *t) {
     unsigned kind = any() % 6;
     uint64_t places = t->i / 4 == 0 ? 1 : t->i / 4;
     if (kind > 3) {
-        boughladder_fresh(LENT(*t));
-        for (uint64_t n = any() % 60; n > 0; n--) boughladder_set(LENT(*t), any() % 40, (uint32_t)n, any() % 40, n % 9 == 0);
+        uint64_t n = boughladder_fresh(LENT(*t)) == 0 ? any() % 60 : 0;
+        for (; n > 0; n--)
+            CHECK(boughladder_set(LENT(*t), any() % 40, (uint32_t)n, any() % 40, n % 9 == 0).refusal != 1);
         for (size_t k = 3; k < t->i; k += 4) t->items[k] = any() % 2;
         if (kind == 5 && t->s > 0) t->slots[any() % t->s] ^= (uint32_t)1 << any() % 32;
         return;
@@ -388,9 +493,86 @@ static void garbage(size_t s, size_t c, size_t i) {
     free(buffer), give_back(&t), give_back(&before), give_back(&whole);
 }
 
+/* A run of calls over a table, and the same plain calls on a copy: the same replies and the same words. */
+static void twins(void) {
+    Table a = lend(32, 4, 40), b = lend(32, 4, 40);
+    BoughladderTable t = {a.slots, a.s, a.counters, a.c, a.items, a.i};
+    uint8_t one[BOUGHLADDER_LIST_BYTES(10)], other[BOUGHLADDER_LIST_BYTES(10)];
+    size_t hand = 0;
+    CHECK(boughladder_table_fresh(&t) == 0 && boughladder_fresh(LENT(b)) == 0);
+    for (int round = 0; round < 3000; round++) {
+        uint64_t animal = any() % 14, now = any() % 900, k = any() % 9;
+        uint32_t permission = (uint32_t)any(), refusal;
+        unsigned what = any() % 40;
+        BoughladderReading r;
+        BoughladderFinding f;
+        BoughladderSetting s, s_cut;
+        BoughladderEvicting e;
+        BoughladderListing l;
+        memset(one, 0xee, sizeof one), memset(other, 0xee, sizeof other);
+        switch (what < 12 ? what : what % 4 * 2) {
+            case 0:
+                s = boughladder_set(LENT(b), animal, permission, now, 0);
+                CHECK(sets(boughladder_table_set(&t, animal, permission, now), s.refusal, s.visits, s.moves));
+                break;
+            case 1:
+                s = boughladder_set(LENT(b), animal, permission, now, 1);
+                CHECK(sets(boughladder_table_set_standing(&t, animal, permission), s.refusal, s.visits, s.moves));
+                break;
+            case 2:
+                r = boughladder_serve(LENT(b), animal, 720, now);
+                CHECK(reads(boughladder_table_serve(&t, animal, 720, now), r.refusal, r.kind, r.permission, r.age));
+                break;
+            case 3:
+                f = boughladder_find(LENT(b), animal);
+                CHECK(finds(boughladder_table_find(&t, animal), f.refusal, f.kind, f.place));
+                break;
+            case 4:
+                r = boughladder_read(LENT(b), animal, 720, now);
+                CHECK(reads(boughladder_table_read(&t, animal, 720, now), r.refusal, r.kind, r.permission, r.age));
+                break;
+            case 5:
+                refusal = boughladder_delete(LENT(b), animal);
+                CHECK(boughladder_table_delete(&t, animal) == refusal);
+                break;
+            case 6:
+                e = boughladder_evict(LENT(b), hand);
+                CHECK(evicts(boughladder_table_evict(&t, hand), e.refusal, e.victim, e.looked, e.hand));
+                hand = e.hand;
+                break;
+            case 7:
+                l = boughladder_list(LENT(b), other, sizeof other - 20 * (k % 3));
+                CHECK(lists(boughladder_table_list(&t, one, sizeof one - 20 * (k % 3)), l.refusal, l.count));
+                break;
+            case 8:
+                s = boughladder_set_cut(LENT(b), animal, permission, now, 0, k);
+                CHECK(sets(boughladder_table_set_cut(&t, animal, permission, now, k), s.refusal, s.visits, s.moves));
+                break;
+            case 9:
+                s = boughladder_set_cut(LENT(b), animal, permission, now, 1, k);
+                s_cut = boughladder_table_set_standing_cut(&t, animal, permission, k);
+                CHECK(sets(s_cut, s.refusal, s.visits, s.moves));
+                break;
+            case 10:
+                refusal = boughladder_delete_cut(LENT(b), animal, k);
+                CHECK(boughladder_table_delete_cut(&t, animal, k) == refusal);
+                break;
+            default:
+                e = boughladder_evict_cut(LENT(b), hand, k);
+                CHECK(evicts(boughladder_table_evict_cut(&t, hand, k), e.refusal, e.victim, e.looked, e.hand));
+                hand = e.hand;
+        }
+        CHECK(same(&a, &b) && memcmp(one, other, sizeof one) == 0);
+        /* A cut may leave a counter odd, and then all is busy: begin again now and then. */
+        if (any() % 50 == 0) CHECK(boughladder_table_fresh(&t) == boughladder_fresh(LENT(b)) && same(&a, &b));
+    }
+    give_back(&a), give_back(&b);
+}
+
 int main(int n, char **words) {
     int rounds = n > 1 ? atoi(words[1]) : 400;
-    layout(), hashes(), shapes(), ages(), moves(), clocks(), the_list(), cuts();
+    layout(), hashes(), shapes(), sizes(), nothing_lent(), lanes(), texts(), records();
+    ages(), moves(), clocks(), the_list(), cuts(), twins();
     /* Each length from 0 on, of one run beside two good ones. */
     for (size_t l = 0; l <= 2100; l++) {
         garbage(l, 1 + any() % 8, 4 * (1 + any() % 8));

@@ -1,0 +1,266 @@
+"""The table inside a grazing gate: animal number to permission with its stamp. For Python 3.8 on, on x86-64 Linux.
+
+    from boughladder import HOLDING, Refusal, Table, lane
+
+    table = Table(buckets=64, counters=16, places=200)
+    table.set(4711, 1, now)
+    try:
+        where = lane(table.serve(4711, 720, now))
+    except Refusal as refusal:
+        where = HOLDING
+        print(refusal)
+
+A refusal is the exception Refusal, with its number and a sentence: hold the animal. It changes no word of the table.
+
+One call at a time: no call may run while another one writes (fresh, set, delete, evict, serve and the cut forms) on the
+same table. Each Table has a lock and each of its calls takes it, so threads may share it. Two Tables over the same
+arrays have two locks: make one.
+
+The library is libboughladder.so, which bindings/python/run links: beside this file, in target/python of the repository,
+or where the environment variable BOUGHLADDER_SO says.
+"""
+import ctypes
+import os
+import pathlib
+import threading
+from typing import NamedTuple, Optional
+
+ABSENT, FRESH, OLD, AHEAD = 'absent', 'fresh', 'old', 'ahead'
+HOLDING, MILKING, GRAZING = 'holding', 'milking', 'grazing'
+
+RECORD_BYTES = 20
+LARGEST_LIMIT = 10080    # minutes: a week
+STANDING = 2 ** 64 - 1   # the stamp of a standing permission; no minute
+MAY_MILK, MAY_GRAZE = 1, 2
+
+REFUSALS = {
+    1: 'a length of the lent memory is wrong, or the hand is too large',
+    2: 'the animal number is 0',
+    3: 'the limit is above 10080 minutes, or the clock gave no minute',
+    4: 'a damaged word was read',
+    5: 'no vacant place for a new animal',
+    6: 'no room within four moves for a new animal',
+    7: 'the animal to delete is absent, or nobody is there to evict',
+    8: 'busy: a write was cut off',
+    9: 'the buffer is too short for the list',
+    10: 'the hand found no victim',
+}
+
+
+class Refusal(Exception):
+    """A call refused; `number` says why."""
+
+    def __init__(self, number):
+        super().__init__('refusal %d: %s' % (number, REFUSALS.get(number, 'no refusal number')))
+        self.number = number
+
+
+class Reading(NamedTuple):
+    """What read and serve say. Fresh alone opens nothing: see lane()."""
+    kind: str                          # absent, fresh, old or ahead
+    permission: Optional[int] = None   # where fresh
+    age: Optional[int] = None          # minutes; where fresh or old
+
+
+class Stored(NamedTuple):
+    visits: int  # buckets looked at for room; 0 where the animal was held already
+    moves: int   # entries moved to make room, at most 4
+
+
+class Evicted(NamedTuple):
+    victim: int  # the animal that went
+    looked: int  # places looked at
+    hand: int    # to pass to the next evict; after a refusal the hand is as it was
+
+
+class Record(NamedTuple):
+    animal: int
+    permission: int
+    stamp: int  # a minute, or STANDING
+
+
+def lane(reading):
+    """Of a fresh permission bit 0 means milking, else bit 1 grazing, else holding; every other answer means holding."""
+    if reading.kind == FRESH and reading.permission & MAY_MILK:
+        return MILKING
+    if reading.kind == FRESH and reading.permission & MAY_GRAZE:
+        return GRAZING
+    return HOLDING
+
+
+def records(data):
+    """The records in the bytes of a list: 20 each, low byte first, animal 8, permission 4, stamp 8."""
+    return [Record(*(int.from_bytes(data[at + a:at + b], 'little') for a, b in ((0, 8), (8, 12), (12, 20))))
+            for at in range(0, len(data) - RECORD_BYTES + 1, RECORD_BYTES)]
+
+
+class _Reading(ctypes.Structure):
+    _fields_ = [('refusal', ctypes.c_uint16), ('kind', ctypes.c_uint16), ('permission', ctypes.c_uint32),
+                ('age', ctypes.c_uint64)]
+
+
+class _Finding(ctypes.Structure):
+    _fields_ = [('refusal', ctypes.c_uint32), ('kind', ctypes.c_uint32), ('place', ctypes.c_size_t)]
+
+
+class _Setting(ctypes.Structure):
+    _fields_ = [('refusal', ctypes.c_uint32), ('visits', ctypes.c_size_t), ('moves', ctypes.c_size_t)]
+
+
+class _Evicting(ctypes.Structure):
+    _fields_ = [('refusal', ctypes.c_uint32), ('victim', ctypes.c_uint64), ('looked', ctypes.c_size_t),
+                ('hand', ctypes.c_size_t)]
+
+
+class _Listing(ctypes.Structure):
+    _fields_ = [('refusal', ctypes.c_uint32), ('count', ctypes.c_size_t)]
+
+
+_u32, _u64, _size = ctypes.c_uint32, ctypes.c_uint64, ctypes.c_size_t
+_LENT = [ctypes.POINTER(_u32), _size, ctypes.POINTER(_u32), _size, ctypes.POINTER(_u64), _size]
+
+# Each call: its reply, and its arguments behind the lent memory.
+_CALLS = {
+    'fresh': (_u32, []),
+    'read': (_Reading, [_u64, _u64, _u64]),
+    'serve': (_Reading, [_u64, _u64, _u64]),
+    'find': (_Finding, [_u64]),
+    'set': (_Setting, [_u64, _u32, _u64, _u32]),
+    'set_cut': (_Setting, [_u64, _u32, _u64, _u32, _u64]),
+    'delete': (_u32, [_u64]),
+    'delete_cut': (_u32, [_u64, _u64]),
+    'evict': (_Evicting, [_size]),
+    'evict_cut': (_Evicting, [_size, _u64]),
+    'list': (_Listing, [ctypes.c_char_p, _size]),
+}
+
+
+def _load():
+    here = pathlib.Path(__file__).resolve().parent
+    named = os.environ.get('BOUGHLADDER_SO')
+    places = [pathlib.Path(named)] if named else [here / 'libboughladder.so',
+                                                  here.parent.parent / 'target/python/libboughladder.so']
+    for path in places:
+        if path.exists():
+            library = ctypes.CDLL(str(path))
+            break
+    else:
+        raise ImportError('libboughladder.so is missing: run bindings/python/run, or set BOUGHLADDER_SO')
+    calls = {}
+    for name, (reply, arguments) in _CALLS.items():
+        calls[name] = library['boughladder_' + name]
+        calls[name].restype, calls[name].argtypes = reply, _LENT + arguments
+    return calls
+
+
+_library = _load()
+
+
+def _number(value, bits, what):
+    """ctypes would drop the bits above without a word."""
+    if not isinstance(value, int) or not 0 <= value < 2 ** bits:
+        raise ValueError('%s must be a whole number from 0 to 2^%d - 1, not %r' % (what, bits, value))
+    return value
+
+
+class Table:
+    """A table, fresh, of so many buckets (a power of two, 2 to 2048), counters (1 to 1024) and places (1 to 4096)."""
+
+    def __init__(self, *, buckets, counters, places):
+        self._lend((_u32 * (4 * buckets))(), (_u32 * counters)(), (_u64 * (4 * places))())
+        self.fresh()
+
+    @classmethod
+    def over(cls, *, slots, counters, items):
+        """A table over ctypes arrays of c_uint32, c_uint32 and c_uint64, as they stand. The arguments go by name."""
+        for array, kind in ((slots, _u32), (counters, _u32), (items, _u64)):
+            if not isinstance(array, ctypes.Array) or array._type_ is not kind:
+                raise TypeError('a table wants ctypes arrays of c_uint32, c_uint32 and c_uint64')
+        table = cls.__new__(cls)
+        table._lend(slots, counters, items)
+        return table
+
+    def _lend(self, slots, counters, items):
+        self.slots, self.counters, self.items = slots, counters, items
+        self._lock = threading.Lock()
+
+    def _call(self, name, *numbers):
+        s, c, i = self.slots, self.counters, self.items
+        with self._lock:
+            reply = _library[name](s, len(s), c, len(c), i, len(i), *numbers)
+        refusal = reply if isinstance(reply, int) else reply.refusal
+        if refusal != 0:
+            raise Refusal(refusal)
+        return reply
+
+    def fresh(self):
+        """Makes a table of the memory: 0 in every word. The only call that helps a busy counter."""
+        self._call('fresh')
+
+    def _ask(self, name, animal, limit, now):
+        r = self._call(name, _number(animal, 64, 'animal'), _number(limit, 64, 'limit'), _number(now, 64, 'now'))
+        if r.kind == 1:
+            return Reading(FRESH, r.permission, r.age)
+        if r.kind == 2:
+            return Reading(OLD, None, r.age)
+        return Reading(AHEAD if r.kind == 3 else ABSENT)
+
+    def read(self, animal, limit, now):
+        """Whether the permission is fresh: held, not ahead of now and at most limit minutes old; or standing."""
+        return self._ask('read', animal, limit, now)
+
+    def serve(self, animal, limit, now):
+        """Read, for a gate that then opens: a fresh answer also marks that the animal was here lately."""
+        return self._ask('serve', animal, limit, now)
+
+    def find(self, animal):
+        """The place at which the animal is held, whatever its age, or None."""
+        r = self._call('find', _number(animal, 64, 'animal'))
+        return r.place if r.kind != 0 else None
+
+    def _set(self, name, animal, permission, now, standing, *k):
+        r = self._call(name, _number(animal, 64, 'animal'), _number(permission, 32, 'permission'),
+                       _number(now, 64, 'now'), standing, *(_number(stores, 64, 'k') for stores in k))
+        return Stored(r.visits, r.moves)
+
+    def set(self, animal, permission, now):
+        """Stores a permission with the stamp now, over the one that is held."""
+        return self._set('set', animal, permission, now, 0)
+
+    def set_standing(self, animal, permission):
+        """Stores a standing permission: it is always fresh, with age 0."""
+        return self._set('set', animal, permission, 0, 1)
+
+    def set_cut(self, animal, permission, now, k):
+        """Set, of which only the first k stores are made, as a loss of power leaves it."""
+        return self._set('set_cut', animal, permission, now, 0, k)
+
+    def set_standing_cut(self, animal, permission, k):
+        """Set of a standing permission, of which only the first k stores are made."""
+        return self._set('set_cut', animal, permission, 0, 1, k)
+
+    def delete(self, animal):
+        """Takes the animal's entry away."""
+        self._call('delete', _number(animal, 64, 'animal'))
+
+    def delete_cut(self, animal, k):
+        """Delete, of which only the first k stores are made."""
+        self._call('delete_cut', _number(animal, 64, 'animal'), _number(k, 64, 'k'))
+
+    def evict(self, hand):
+        """Takes the first animal from the hand on that was not here lately. The hand is 0 after fresh."""
+        r = self._call('evict', _number(hand, 64, 'hand'))
+        return Evicted(r.victim, r.looked, r.hand)
+
+    def evict_cut(self, hand, k):
+        """Evict, of which only the first k stores are made."""
+        r = self._call('evict_cut', _number(hand, 64, 'hand'), _number(k, 64, 'k'))
+        return Evicted(r.victim, r.looked, r.hand)
+
+    def list(self, length=None):
+        """The bytes of the list, 20 for each animal; records() takes them apart. A length is the room that is lent."""
+        if length is None:
+            length = RECORD_BYTES * (len(self.items) // 4)
+        buffer = ctypes.create_string_buffer(max(1, _number(length, 32, 'length')))
+        r = self._call('list', buffer, length)
+        return buffer.raw[:RECORD_BYTES * r.count]

@@ -1,0 +1,215 @@
+"""The order's examples and samples/network-drop.calls with its answers. bindings/rust/tests/story.rs tells the same."""
+import ctypes
+import threading
+import unittest
+
+from boughladder import (ABSENT, AHEAD, FRESH, GRAZING, HOLDING, LARGEST_LIMIT, MILKING, OLD, REFUSALS, STANDING,
+                         Evicted, Reading, Record, Refusal, Stored, Table, lane, records)
+
+
+def lent(s, c, i):
+    """A table over memory of these lengths in words, with garbage in it."""
+    garbage = 0xa5a5a5a5
+    return Table.over(slots=(ctypes.c_uint32 * s)(*[garbage] * s), counters=(ctypes.c_uint32 * c)(*[garbage] * c),
+                      items=(ctypes.c_uint64 * i)(*[garbage] * i))
+
+
+def made(s, c, i):
+    table = lent(s, c, i)
+    table.fresh()
+    return table
+
+
+def fresh(permission, age):
+    return Reading(FRESH, permission, age)
+
+
+def old(age):
+    return Reading(OLD, None, age)
+
+
+class Story(unittest.TestCase):
+    def refused(self, number, call, *numbers):
+        with self.assertRaises(Refusal) as caught:
+            call(*numbers)
+        self.assertEqual(caught.exception.number, number)
+
+    def test_lengths(self):
+        for s, c, i, good in ((8, 1, 4, True), (4, 1, 4, False), (12, 1, 4, False), (8192, 1, 4, True),
+                              (16384, 1, 4, False), (8, 0, 4, False), (8, 1024, 4, True), (8, 1025, 4, False),
+                              (8, 1, 0, False), (8, 1, 6, False), (8, 1, 16384, True), (8, 1, 16388, False),
+                              (0, 0, 0, False)):
+            with self.subTest(lengths=(s, c, i)):
+                if good:
+                    self.assertIsNone(lent(s, c, i).fresh())
+                else:
+                    self.refused(1, lent(s, c, i).fresh)
+        table = Table(buckets=2048, counters=1024, places=4096)
+        self.assertEqual((len(table.slots), len(table.counters), len(table.items)), (8192, 1024, 16384))
+        self.refused(1, lambda: Table(buckets=3, counters=1, places=1))
+
+    def test_ages(self):
+        table = made(32, 4, 32)
+        self.assertEqual(table.set(7, 5, 100), Stored(1, 0))
+        self.assertEqual(table.read(7, 720, 820), fresh(5, 720))
+        self.assertEqual(table.read(7, 720, 821), old(721))
+        self.assertEqual(table.read(7, 720, 99), Reading(AHEAD))
+        self.assertEqual(table.read(8, 720, 100), Reading(ABSENT))
+        self.assertEqual(table.read(7, LARGEST_LIMIT, 10180), fresh(5, 10080))
+        self.refused(3, table.read, 7, LARGEST_LIMIT + 1, 100)
+        self.refused(3, table.read, 7, 720, 2 ** 64 - 1)
+        self.refused(3, table.set, 7, 5, 2 ** 64 - 1)
+        self.refused(2, table.read, 0, 720, 100)
+        self.assertEqual(table.set_standing(7, 6), Stored(0, 0))
+        self.assertEqual(table.read(7, 0, 2 ** 64 - 2), fresh(6, 0))
+        self.assertEqual(table.items[:4], [7, 6, STANDING, 1])
+
+    def test_the_network_drops(self):
+        table = made(32, 4, 32)
+        self.assertEqual(table.set(4711, 1, 100), Stored(1, 0))
+        self.assertEqual(table.set(4712, 1, 100), Stored(1, 0))
+        self.assertEqual(table.set(4713, 2, 100), Stored(1, 0))
+        self.assertEqual(table.set_standing(900, 2), Stored(1, 0))
+        self.assertEqual(table.serve(4711, 720, 130), fresh(1, 30))
+        self.assertEqual(table.serve(4713, 720, 130), fresh(2, 30))
+        self.assertEqual(table.serve(900, 720, 130), fresh(2, 0))
+        self.assertEqual(table.read(4712, 720, 200), fresh(1, 100))
+        self.assertEqual(table.serve(4711, 720, 820), fresh(1, 720))
+        self.assertEqual(table.serve(4711, 720, 821), old(721))
+        self.assertEqual(lane(table.serve(4711, 720, 821)), HOLDING)
+        self.assertEqual(table.serve(4712, 720, 840), old(740))
+        self.assertEqual(table.serve(900, 720, 840), fresh(2, 0))
+        self.assertEqual(table.serve(4799, 720, 840), Reading(ABSENT))
+        self.assertEqual(table.read(4711, 10080, 840), fresh(1, 740))
+        self.refused(3, table.read, 4711, 10081, 840)
+
+        # The network is back: 4712 was treated, and her fresh permission is to hold her.
+        self.assertEqual(table.set(4711, 1, 900), Stored(0, 0))
+        self.assertEqual(table.set(4712, 0, 900), Stored(0, 0))
+        self.assertEqual(table.set(4713, 2, 900), Stored(0, 0))
+        self.assertEqual(table.serve(4712, 720, 905), fresh(0, 5))
+        self.assertEqual(lane(table.serve(4711, 720, 905)), MILKING)
+        self.assertEqual(lane(table.serve(4712, 720, 905)), HOLDING)
+        self.assertEqual(lane(table.serve(4713, 720, 905)), GRAZING)
+        self.assertEqual(table.set(4714, 1, 900), Stored(1, 0))
+        self.assertEqual(table.read(4711, 720, 99), Reading(AHEAD))
+        self.assertEqual(table.set(4715, 1, 100), Stored(1, 0))
+        self.assertIsNone(table.delete(4713))
+        self.refused(7, table.delete, 4713)
+        self.assertIsNone(table.find(4713))
+        self.assertEqual(table.find(4715), 5)
+
+        self.refused(9, table.list, 99)
+        self.assertEqual(table.list(104).hex(), '6712000000000000010000008403000000000000'
+                                                '6812000000000000000000008403000000000000'
+                                                '840300000000000002000000ffffffffffffffff'
+                                                '6a12000000000000010000008403000000000000'
+                                                '6b12000000000000010000006400000000000000')
+        self.assertEqual(records(table.list()), [Record(4711, 1, 900), Record(4712, 0, 900), Record(900, 2, STANDING),
+                                                 Record(4714, 1, 900), Record(4715, 1, 100)])
+
+    def test_records(self):
+        table = made(8, 1, 4)
+        table.set(1, 5, 2)
+        self.assertEqual(table.list().hex(), '01000000000000000500000002' + 14 * '0')
+        every = bytes.fromhex('0807060504030201fcfdfeff8877665544332291')
+        self.assertEqual(records(every), [Record(0x0102030405060708, 0xfffefdfc, 0x9122334455667788)])
+
+    def test_room_is_made(self):
+        table = made(16, 4, 36)
+        for animal in (358, 687, 1012, 1334, 248, 734, 913, 1710):
+            self.assertEqual(table.set(animal, 1, 100), Stored(1, 0))
+        self.assertEqual(table.set(5, 1, 100), Stored(5, 1))
+        self.assertEqual((table.slots[12], table.counters[0]), (131074, 20))
+        self.assertEqual(table.read(1012, 720, 100), fresh(1, 0))
+        self.refused(5, table.set, 6, 1, 100)
+
+        table = made(8, 1, 36)
+        for animal in range(1, 9):
+            self.assertEqual(table.set(animal, 1, 100), Stored(1, 0))
+        self.refused(6, table.set, 9, 1, 100)
+        table.delete(4)
+        self.assertEqual(table.set(9, 1, 100), Stored(2, 0))
+
+    def test_the_hand(self):
+        table = made(8, 1, 12)
+        self.refused(7, table.evict, 0)
+        for animal in (1, 2, 3):
+            table.set(animal, 1, 100)
+        self.refused(1, table.evict, 3)
+        self.assertEqual(table.evict(1), Evicted(2, 4, 2))
+
+        # Alone, and here lately: two turns. First with no more than the mark taken from her.
+        table.fresh()
+        table.set(1, 1, 100)
+        self.assertEqual(table.evict_cut(1, 1), Evicted(1, 6, 1))
+        self.assertEqual(table.items[:4], [1, 1, 100, 0])
+        self.assertEqual(table.serve(1, 720, 100), fresh(1, 0))
+        self.assertEqual(table.items[3], 1)
+        self.assertEqual(table.evict(1), Evicted(1, 6, 1))
+        self.assertEqual(table.read(1, 720, 100), Reading(ABSENT))
+
+    def test_the_power_goes(self):
+        for k in range(9):
+            with self.subTest(k=k):
+                table = made(16, 1, 20)
+                # Seven stores of a new entry: busy between the first and the last.
+                self.assertEqual(table.set_cut(7, 5, 100, k), Stored(1, 0))
+                if 0 < k < 7:
+                    self.refused(8, table.read, 7, 720, 100)
+                    self.refused(8, table.set, 7, 5, 100)
+                    self.refused(8, table.delete, 7)
+                    self.refused(8, table.find, 7)
+                else:
+                    self.assertEqual(table.read(7, 720, 100), Reading(ABSENT) if k == 0 else fresh(5, 0))
+                # Only fresh helps.
+                table.fresh()
+                self.assertEqual(table.set_standing_cut(7, 5, 7), Stored(1, 0))
+                # Seven stores of a delete.
+                table.delete_cut(7, k)
+                if 0 < k < 7:
+                    self.refused(8, table.read, 7, 720, 100)
+                else:
+                    self.assertEqual(table.read(7, 720, 100), fresh(5, 0) if k == 0 else Reading(ABSENT))
+
+    def test_a_damaged_word(self):
+        table = made(16, 4, 20)
+        table.set(1, 1, 100)
+        for word in (4, 16777216, 65541):
+            table.slots[1] = word
+            self.refused(4, table.read, 1, 720, 110)
+        table.slots[1] = 65540
+        self.assertEqual(table.read(1, 720, 110), fresh(1, 10))
+
+    def test_lanes(self):
+        self.assertEqual([lane(fresh(permission, 0)) for permission in range(5)],
+                         [HOLDING, MILKING, GRAZING, MILKING, HOLDING])
+        for held in (Reading(ABSENT), old(1), Reading(AHEAD)):
+            self.assertEqual(lane(held), HOLDING)
+
+    def test_refusals(self):
+        self.assertEqual(list(REFUSALS), list(range(1, 11)))
+        self.assertEqual(str(Refusal(8)), 'refusal 8: busy: a write was cut off')
+        self.assertEqual(str(Refusal(11)), 'refusal 11: no refusal number')
+
+    def test_numbers_out_of_range(self):
+        table = made(8, 1, 4)
+        for call in (lambda: table.set(2 ** 64 + 1, 1, 1), lambda: table.set(1, 2 ** 32, 1),
+                     lambda: table.read(1, -1, 1), lambda: table.read(1, 1.5, 1), lambda: table.evict(-1)):
+            self.assertRaises(ValueError, call)
+        self.assertEqual(table.list(), b'')
+        self.assertRaises(TypeError, lambda: Table.over(slots=table.items, counters=table.counters, items=table.items))
+
+    def test_one_call_at_a_time(self):
+        table = made(8, 1, 4)
+        for call, numbers in ((table.set, (1, 1, 100)), (table.read, (1, 720, 100)), (table.list, ())):
+            task = threading.Thread(target=call, args=numbers)
+            with table._lock:
+                task.start()
+                task.join(0.1)
+                self.assertTrue(task.is_alive())
+            task.join()
+
+
+if __name__ == '__main__':
+    unittest.main()

@@ -1,0 +1,355 @@
+//! The table inside a grazing gate: animal number to permission with its stamp, in memory that the caller lends.
+//!
+//! ```no_run
+//! use boughladder::{items, lane, slots, Lane, Table};
+//!
+//! let (mut s, mut c, mut i) = ([0; slots(64)], [0; 16], [0; items(200)]);
+//! let mut table = Table { slots: &mut s, counters: &mut c, items: &mut i };
+//! table.fresh()?;
+//! table.set(4711, 1, 100)?;
+//! if lane(table.serve(4711, 720, 130)) == Lane::Milking { /* open the milking gate */ }
+//! # Ok::<(), boughladder::Refusal>(())
+//! ```
+//!
+//! Every call is safe on slices of any length and contents: it ends, touches nothing outside of them, and says what it
+//! found. Calls that write take `&mut self`, serve too, so no other call runs beside them. Two threads share a table in
+//! a `Mutex`, or in a `RwLock`: reads, finds and lists may run beside each other.
+
+mod ffi;
+
+use std::fmt;
+
+/// The words of `slots` for n buckets; n is a power of two from 2 to 2,048.
+pub const fn slots(n: usize) -> usize {
+    4 * n
+}
+
+/// The words of `items` for m places; m is from 1 to 4,096. Counters are a word each, from 1 to 1,024.
+pub const fn items(m: usize) -> usize {
+    4 * m
+}
+
+/// The bytes of a whole list of m places.
+pub const fn list_bytes(m: usize) -> usize {
+    RECORD_BYTES * m
+}
+
+/// The bytes of one record of a list.
+pub const RECORD_BYTES: usize = 20;
+/// The largest limit in minutes: a week.
+pub const LARGEST_LIMIT: u64 = 10080;
+/// The stamp of a standing permission. It is no minute.
+pub const STANDING: u64 = u64::MAX;
+/// Bit 0 of a permission.
+pub const MAY_MILK: u32 = 1;
+/// Bit 1 of a permission.
+pub const MAY_GRAZE: u32 = 2;
+
+/// Why a call refused. A refusal changes no word.
+#[derive(Clone, Copy, Debug, PartialEq, Eq)]
+pub enum Refusal {
+    /// A length of the lent memory is wrong, or the hand is too large.
+    BadShape,
+    /// The animal number is 0.
+    NoAnimal,
+    /// The limit is above 10,080 minutes, or now is 2^64 - 1.
+    BadTime,
+    /// A damaged word was read, or evict's victim has no slot. Make it fresh and load the list again.
+    Damaged,
+    /// Set of an absent animal: all places are taken.
+    NoPlace,
+    /// Set of an absent animal: no free slot within four moves.
+    NoRoom,
+    /// Delete of an absent animal, or nobody is there to evict.
+    Nobody,
+    /// A write was cut off by a loss of power. Only fresh helps.
+    Busy,
+    /// The list needs 20 bytes for each place that is taken.
+    ShortBuffer,
+    /// The hand found no victim: proved never to come.
+    NoVictim,
+    /// A number that this crate does not know: the archive is of another version.
+    Unknown(u32),
+}
+
+const REFUSALS: [Refusal; 10] = [
+    Refusal::BadShape,
+    Refusal::NoAnimal,
+    Refusal::BadTime,
+    Refusal::Damaged,
+    Refusal::NoPlace,
+    Refusal::NoRoom,
+    Refusal::Nobody,
+    Refusal::Busy,
+    Refusal::ShortBuffer,
+    Refusal::NoVictim,
+];
+
+impl Refusal {
+    /// The refusal of a number, from 1 on.
+    pub fn from_number(number: u32) -> Refusal {
+        let known = REFUSALS.iter().find(|refusal| refusal.number() == number);
+        known.copied().unwrap_or(Refusal::Unknown(number))
+    }
+
+    pub fn number(self) -> u32 {
+        match self {
+            Refusal::BadShape => 1,
+            Refusal::NoAnimal => 2,
+            Refusal::BadTime => 3,
+            Refusal::Damaged => 4,
+            Refusal::NoPlace => 5,
+            Refusal::NoRoom => 6,
+            Refusal::Nobody => 7,
+            Refusal::Busy => 8,
+            Refusal::ShortBuffer => 9,
+            Refusal::NoVictim => 10,
+            Refusal::Unknown(number) => number,
+        }
+    }
+}
+
+impl fmt::Display for Refusal {
+    fn fmt(&self, f: &mut fmt::Formatter<'_>) -> fmt::Result {
+        f.write_str(match self {
+            Refusal::BadShape => "a length of the lent memory is wrong, or the hand is too large",
+            Refusal::NoAnimal => "the animal number is 0",
+            Refusal::BadTime => "the limit is above 10080 minutes, or the clock gave no minute",
+            Refusal::Damaged => "a damaged word was read",
+            Refusal::NoPlace => "no vacant place for a new animal",
+            Refusal::NoRoom => "no room within four moves for a new animal",
+            Refusal::Nobody => "the animal to delete is absent, or nobody is there to evict",
+            Refusal::Busy => "busy: a write was cut off",
+            Refusal::ShortBuffer => "the buffer is too short for the list",
+            Refusal::NoVictim => "the hand found no victim",
+            Refusal::Unknown(_) => "no refusal number",
+        })
+    }
+}
+
+impl std::error::Error for Refusal {}
+
+/// What read and serve say. Fresh alone opens nothing: see [`lane`].
+#[derive(Clone, Copy, Debug, PartialEq, Eq)]
+pub enum Reading {
+    /// The animal is not held.
+    Absent,
+    /// A permission within the limit, or a standing one, whose age is 0.
+    Fresh { permission: u32, age: u64 },
+    /// A permission beyond the limit: its age is told, and it is not.
+    Old { age: u64 },
+    /// The stamp is later than now.
+    Ahead,
+}
+
+/// Where an animal goes.
+#[derive(Clone, Copy, Debug, PartialEq, Eq)]
+pub enum Lane {
+    Holding,
+    Milking,
+    Grazing,
+}
+
+/// The lane by an answer of read or serve: of a fresh permission bit 0 means milking, else bit 1 grazing, else holding.
+/// Every other answer and every refusal means holding.
+pub fn lane(reading: Result<Reading, Refusal>) -> Lane {
+    match reading {
+        Ok(Reading::Fresh { permission, .. }) if permission & MAY_MILK != 0 => Lane::Milking,
+        Ok(Reading::Fresh { permission, .. }) if permission & MAY_GRAZE != 0 => Lane::Grazing,
+        _ => Lane::Holding,
+    }
+}
+
+/// What set says when it stored.
+#[derive(Clone, Copy, Debug, PartialEq, Eq)]
+pub struct Stored {
+    /// Buckets looked at for room, at most 682; 0 where the animal was held already.
+    pub visits: usize,
+    /// Entries moved to make room, at most 4.
+    pub moves: usize,
+}
+
+/// What evict says when it took an animal away.
+#[derive(Clone, Copy, Debug, PartialEq, Eq)]
+pub struct Evicted {
+    /// The animal that went.
+    pub victim: u64,
+    /// Places looked at.
+    pub looked: usize,
+    /// To pass to the next evict. On a refusal the hand stays as it was.
+    pub hand: usize,
+}
+
+/// One record of a list.
+#[derive(Clone, Copy, Debug, PartialEq, Eq)]
+pub struct Record {
+    pub animal: u64,
+    pub permission: u32,
+    /// A minute, or [`STANDING`].
+    pub stamp: u64,
+}
+
+/// The records of a list, in the order of their places.
+#[derive(Clone, Debug)]
+pub struct Records<'b> {
+    bytes: &'b [u8],
+}
+
+impl<'b> Records<'b> {
+    /// The records in the bytes of a list; what is left over at the end is no record.
+    pub fn of(bytes: &'b [u8]) -> Records<'b> {
+        Records { bytes: &bytes[..bytes.len() / RECORD_BYTES * RECORD_BYTES] }
+    }
+
+    /// The bytes themselves, low byte first: animal 8, permission 4, stamp 8.
+    pub fn bytes(&self) -> &'b [u8] {
+        self.bytes
+    }
+}
+
+impl Iterator for Records<'_> {
+    type Item = Record;
+
+    fn next(&mut self) -> Option<Record> {
+        if self.bytes.is_empty() {
+            return None;
+        }
+        let (record, rest) = self.bytes.split_at(RECORD_BYTES);
+        self.bytes = rest;
+        let number = |bytes: &[u8]| bytes.iter().rev().fold(0, |number, byte| number << 8 | u64::from(*byte));
+        Some(Record {
+            animal: number(&record[..8]),
+            permission: number(&record[8..12]) as u32,
+            stamp: number(&record[12..]),
+        })
+    }
+
+    fn size_hint(&self) -> (usize, Option<usize>) {
+        (self.bytes.len() / RECORD_BYTES, Some(self.bytes.len() / RECORD_BYTES))
+    }
+}
+
+impl ExactSizeIterator for Records<'_> {}
+
+/// The lent memory. The fields are named where a table is made, so that slots and counters are not swapped unseen.
+/// Make it fresh before any other call, unless it holds a table already.
+#[derive(Debug)]
+pub struct Table<'a> {
+    pub slots: &'a mut [u32],
+    pub counters: &'a mut [u32],
+    pub items: &'a mut [u64],
+}
+
+// Sound: the library reads and writes within the slices that it is lent, whatever they hold.
+macro_rules! reads {
+    ($t:ident, $call:ident $(, $number:expr)*) => {
+        unsafe {
+            ffi::$call($t.slots.as_ptr(), $t.slots.len(), $t.counters.as_ptr(), $t.counters.len(), $t.items.as_ptr(),
+                $t.items.len() $(, $number)*)
+        }
+    };
+}
+macro_rules! writes {
+    ($t:ident, $call:ident $(, $number:expr)*) => {
+        unsafe {
+            ffi::$call($t.slots.as_mut_ptr(), $t.slots.len(), $t.counters.as_mut_ptr(), $t.counters.len(),
+                $t.items.as_mut_ptr(), $t.items.len() $(, $number)*)
+        }
+    };
+}
+
+fn done<T>(refusal: u32, value: T) -> Result<T, Refusal> {
+    if refusal == 0 {
+        Ok(value)
+    } else {
+        Err(Refusal::from_number(refusal))
+    }
+}
+
+fn told(r: ffi::Reading) -> Result<Reading, Refusal> {
+    let reading = match r.kind {
+        1 => Reading::Fresh { permission: r.permission, age: r.age },
+        2 => Reading::Old { age: r.age },
+        3 => Reading::Ahead,
+        _ => Reading::Absent,
+    };
+    done(r.refusal.into(), reading)
+}
+
+fn stored(r: ffi::Setting) -> Result<Stored, Refusal> {
+    done(r.refusal, Stored { visits: r.visits, moves: r.moves })
+}
+
+fn evicted(r: ffi::Evicting) -> Result<Evicted, Refusal> {
+    done(r.refusal, Evicted { victim: r.victim, looked: r.looked, hand: r.hand })
+}
+
+impl Table<'_> {
+    /// Makes a table of the memory: 0 in every word. The only call that helps a busy counter.
+    pub fn fresh(&mut self) -> Result<(), Refusal> {
+        done(writes!(self, boughladder_fresh), ())
+    }
+
+    /// Says whether the animal's permission is fresh: held, not ahead of now and at most limit minutes old; or standing.
+    pub fn read(&self, animal: u64, limit: u64, now: u64) -> Result<Reading, Refusal> {
+        told(reads!(self, boughladder_read, animal, limit, now))
+    }
+
+    /// Read, for a gate that then opens: a fresh answer also marks that the animal was here lately.
+    pub fn serve(&mut self, animal: u64, limit: u64, now: u64) -> Result<Reading, Refusal> {
+        told(writes!(self, boughladder_serve, animal, limit, now))
+    }
+
+    /// The place at which the animal is held, whatever its age: its words are `items[4 * place..4 * place + 4]`.
+    pub fn find(&self, animal: u64) -> Result<Option<usize>, Refusal> {
+        let r = reads!(self, boughladder_find, animal);
+        done(r.refusal, if r.kind == 0 { None } else { Some(r.place) })
+    }
+
+    /// Stores a permission with the stamp now, over the one that is held.
+    pub fn set(&mut self, animal: u64, permission: u32, now: u64) -> Result<Stored, Refusal> {
+        stored(writes!(self, boughladder_set, animal, permission, now, 0))
+    }
+
+    /// Stores a standing permission: it is always fresh, with age 0.
+    pub fn set_standing(&mut self, animal: u64, permission: u32) -> Result<Stored, Refusal> {
+        stored(writes!(self, boughladder_set, animal, permission, 0, 1))
+    }
+
+    /// Set, of which only the first k stores are made, as a loss of power leaves it.
+    pub fn set_cut(&mut self, animal: u64, permission: u32, now: u64, k: u64) -> Result<Stored, Refusal> {
+        stored(writes!(self, boughladder_set_cut, animal, permission, now, 0, k))
+    }
+
+    /// Set of a standing permission, of which only the first k stores are made.
+    pub fn set_standing_cut(&mut self, animal: u64, permission: u32, k: u64) -> Result<Stored, Refusal> {
+        stored(writes!(self, boughladder_set_cut, animal, permission, 0, 1, k))
+    }
+
+    /// Takes the animal's entry away.
+    pub fn delete(&mut self, animal: u64) -> Result<(), Refusal> {
+        done(writes!(self, boughladder_delete, animal), ())
+    }
+
+    /// Delete, of which only the first k stores are made.
+    pub fn delete_cut(&mut self, animal: u64, k: u64) -> Result<(), Refusal> {
+        done(writes!(self, boughladder_delete_cut, animal, k), ())
+    }
+
+    /// Takes the first animal from the hand on that was not here lately. The hand is 0 after fresh, then the reply's.
+    pub fn evict(&mut self, hand: usize) -> Result<Evicted, Refusal> {
+        evicted(writes!(self, boughladder_evict, hand))
+    }
+
+    /// Evict, of which only the first k stores are made.
+    pub fn evict_cut(&mut self, hand: usize, k: u64) -> Result<Evicted, Refusal> {
+        evicted(writes!(self, boughladder_evict_cut, hand, k))
+    }
+
+    /// Writes the places that are taken to the buffer, 20 bytes each, and hands the records back.
+    pub fn list<'b>(&self, buffer: &'b mut [u8]) -> Result<Records<'b>, Refusal> {
+        let r = reads!(self, boughladder_list, buffer.as_mut_ptr(), buffer.len());
+        done(r.refusal, ())?;
+        Ok(Records::of(&buffer[..list_bytes(r.count)]))
+    }
+}

@@ -1,0 +1,256 @@
+// The order's examples and samples/network-drop.calls with its answers. bindings/python/test_story.py tells the same.
+use boughladder::*;
+
+struct Memory {
+    slots: Vec<u32>,
+    counters: Vec<u32>,
+    items: Vec<u64>,
+}
+
+// Lent memory of these lengths in words, with garbage in it.
+fn lent(s: usize, c: usize, i: usize) -> Memory {
+    Memory { slots: vec![0xa5a5_a5a5; s], counters: vec![0xa5a5_a5a5; c], items: vec![0xa5a5_a5a5_a5a5_a5a5; i] }
+}
+
+impl Memory {
+    fn table(&mut self) -> Table<'_> {
+        Table { slots: &mut self.slots, counters: &mut self.counters, items: &mut self.items }
+    }
+}
+
+fn stored(visits: usize, moves: usize) -> Result<Stored, Refusal> {
+    Ok(Stored { visits, moves })
+}
+
+fn fresh(permission: u32, age: u64) -> Result<Reading, Refusal> {
+    Ok(Reading::Fresh { permission, age })
+}
+
+#[test]
+fn lengths() {
+    for (s, c, i, good) in [
+        (8, 1, 4, true),
+        (4, 1, 4, false),
+        (12, 1, 4, false),
+        (8192, 1, 4, true),
+        (16384, 1, 4, false),
+        (8, 0, 4, false),
+        (8, 1024, 4, true),
+        (8, 1025, 4, false),
+        (8, 1, 0, false),
+        (8, 1, 6, false),
+        (8, 1, 16384, true),
+        (8, 1, 16388, false),
+        (0, 0, 0, false),
+    ] {
+        let said = lent(s, c, i).table().fresh();
+        assert_eq!(said, if good { Ok(()) } else { Err(Refusal::BadShape) }, "{s} {c} {i}");
+    }
+    assert_eq!((slots(2048), items(4096), list_bytes(200)), (8192, 16384, 4000));
+}
+
+#[test]
+fn ages() {
+    let mut memory = lent(slots(8), 4, items(8));
+    let mut table = memory.table();
+    table.fresh().unwrap();
+    assert_eq!(table.set(7, 5, 100), stored(1, 0));
+    assert_eq!(table.read(7, 720, 820), fresh(5, 720));
+    assert_eq!(table.read(7, 720, 821), Ok(Reading::Old { age: 721 }));
+    assert_eq!(table.read(7, 720, 99), Ok(Reading::Ahead));
+    assert_eq!(table.read(8, 720, 100), Ok(Reading::Absent));
+    assert_eq!(table.read(7, LARGEST_LIMIT, 10180), fresh(5, 10080));
+    assert_eq!(table.read(7, LARGEST_LIMIT + 1, 100), Err(Refusal::BadTime));
+    assert_eq!(table.read(7, 720, u64::MAX), Err(Refusal::BadTime));
+    assert_eq!(table.set(7, 5, u64::MAX), Err(Refusal::BadTime));
+    assert_eq!(table.read(0, 720, 100), Err(Refusal::NoAnimal));
+    assert_eq!(table.set_standing(7, 6), stored(0, 0));
+    assert_eq!(table.read(7, 0, u64::MAX - 1), fresh(6, 0));
+    assert_eq!(table.items[..4], [7, 6, STANDING, 1]);
+}
+
+#[test]
+fn the_network_drops() {
+    let mut memory = lent(32, 4, 32);
+    let mut table = memory.table();
+    table.fresh().unwrap();
+    assert_eq!(table.set(4711, 1, 100), stored(1, 0));
+    assert_eq!(table.set(4712, 1, 100), stored(1, 0));
+    assert_eq!(table.set(4713, 2, 100), stored(1, 0));
+    assert_eq!(table.set_standing(900, 2), stored(1, 0));
+    assert_eq!(table.serve(4711, 720, 130), fresh(1, 30));
+    assert_eq!(table.serve(4713, 720, 130), fresh(2, 30));
+    assert_eq!(table.serve(900, 720, 130), fresh(2, 0));
+    assert_eq!(table.read(4712, 720, 200), fresh(1, 100));
+    assert_eq!(table.serve(4711, 720, 820), fresh(1, 720));
+    assert_eq!(table.serve(4711, 720, 821), Ok(Reading::Old { age: 721 }));
+    assert_eq!(lane(table.serve(4711, 720, 821)), Lane::Holding);
+    assert_eq!(table.serve(4712, 720, 840), Ok(Reading::Old { age: 740 }));
+    assert_eq!(table.serve(900, 720, 840), fresh(2, 0));
+    assert_eq!(table.serve(4799, 720, 840), Ok(Reading::Absent));
+    assert_eq!(table.read(4711, 10080, 840), fresh(1, 740));
+    assert_eq!(table.read(4711, 10081, 840), Err(Refusal::BadTime));
+
+    // The network is back: 4712 was treated, and her fresh permission is to hold her.
+    assert_eq!(table.set(4711, 1, 900), stored(0, 0));
+    assert_eq!(table.set(4712, 0, 900), stored(0, 0));
+    assert_eq!(table.set(4713, 2, 900), stored(0, 0));
+    assert_eq!(table.serve(4712, 720, 905), fresh(0, 5));
+    assert_eq!(lane(table.serve(4711, 720, 905)), Lane::Milking);
+    assert_eq!(lane(table.serve(4712, 720, 905)), Lane::Holding);
+    assert_eq!(lane(table.serve(4713, 720, 905)), Lane::Grazing);
+    assert_eq!(table.set(4714, 1, 900), stored(1, 0));
+    assert_eq!(table.read(4711, 720, 99), Ok(Reading::Ahead));
+    assert_eq!(table.set(4715, 1, 100), stored(1, 0));
+    assert_eq!(table.delete(4713), Ok(()));
+    assert_eq!(table.delete(4713), Err(Refusal::Nobody));
+    assert_eq!(table.find(4713), Ok(None));
+    assert_eq!(table.find(4715), Ok(Some(5)));
+
+    let mut buffer = [0xee; 104];
+    assert_eq!(table.list(&mut buffer[..99]).err(), Some(Refusal::ShortBuffer));
+    assert_eq!(buffer, [0xee; 104]);
+    let records = table.list(&mut buffer).unwrap();
+    let text: String = records.bytes().iter().map(|byte| format!("{byte:02x}")).collect();
+    assert_eq!(
+        text,
+        "6712000000000000010000008403000000000000\
+         6812000000000000000000008403000000000000\
+         840300000000000002000000ffffffffffffffff\
+         6a12000000000000010000008403000000000000\
+         6b12000000000000010000006400000000000000"
+    );
+    let told: Vec<_> = records.map(|record| (record.animal, record.permission, record.stamp)).collect();
+    assert_eq!(told, [(4711, 1, 900), (4712, 0, 900), (900, 2, STANDING), (4714, 1, 900), (4715, 1, 100)]);
+    assert_eq!(buffer[100..], [0xee; 4]);
+}
+
+#[test]
+fn records() {
+    let mut memory = lent(slots(2), 1, items(1));
+    let mut table = memory.table();
+    table.fresh().unwrap();
+    table.set(1, 5, 2).unwrap();
+    let mut buffer = [0; 20];
+    let list = table.list(&mut buffer).unwrap();
+    assert_eq!(list.bytes(), [1, 0, 0, 0, 0, 0, 0, 0, 5, 0, 0, 0, 2, 0, 0, 0, 0, 0, 0, 0]);
+    let every = [8, 7, 6, 5, 4, 3, 2, 1, 0xfc, 0xfd, 0xfe, 0xff, 0x88, 0x77, 0x66, 0x55, 0x44, 0x33, 0x22, 0x91];
+    let record = Record { animal: 0x0102030405060708, permission: 0xfffefdfc, stamp: 0x9122334455667788 };
+    assert_eq!(Records::of(&every).collect::<Vec<_>>(), [record]);
+}
+
+#[test]
+fn room_is_made() {
+    let mut memory = lent(slots(4), 4, items(9));
+    let mut table = memory.table();
+    table.fresh().unwrap();
+    for animal in [358, 687, 1012, 1334, 248, 734, 913, 1710] {
+        assert_eq!(table.set(animal, 1, 100), stored(1, 0));
+    }
+    assert_eq!(table.set(5, 1, 100), stored(5, 1));
+    assert_eq!((table.slots[12], table.counters[0]), (131074, 20));
+    assert_eq!(table.read(1012, 720, 100), fresh(1, 0));
+    assert_eq!(table.set(6, 1, 100), Err(Refusal::NoPlace));
+
+    let mut memory = lent(slots(2), 1, items(9));
+    let mut table = memory.table();
+    table.fresh().unwrap();
+    for animal in 1..=8 {
+        assert_eq!(table.set(animal, 1, 100), stored(1, 0));
+    }
+    assert_eq!(table.set(9, 1, 100), Err(Refusal::NoRoom));
+    assert_eq!(table.delete(4), Ok(()));
+    assert_eq!(table.set(9, 1, 100), stored(2, 0));
+}
+
+#[test]
+fn the_hand() {
+    let mut memory = lent(slots(2), 1, items(3));
+    let mut table = memory.table();
+    table.fresh().unwrap();
+    assert_eq!(table.evict(0), Err(Refusal::Nobody));
+    for animal in 1..=3 {
+        table.set(animal, 1, 100).unwrap();
+    }
+    assert_eq!(table.evict(3), Err(Refusal::BadShape));
+    assert_eq!(table.evict(1), Ok(Evicted { victim: 2, looked: 4, hand: 2 }));
+
+    // Alone, and here lately: two turns. First with no more than the mark taken from her.
+    table.fresh().unwrap();
+    table.set(1, 1, 100).unwrap();
+    assert_eq!(table.evict_cut(1, 1), Ok(Evicted { victim: 1, looked: 6, hand: 1 }));
+    assert_eq!(table.items[..4], [1, 1, 100, 0]);
+    assert_eq!(table.serve(1, 720, 100), fresh(1, 0));
+    assert_eq!(table.items[3], 1);
+    assert_eq!(table.evict(1), Ok(Evicted { victim: 1, looked: 6, hand: 1 }));
+    assert_eq!(table.read(1, 720, 100), Ok(Reading::Absent));
+}
+
+#[test]
+fn the_power_goes() {
+    for k in 0..=8 {
+        let mut memory = lent(slots(4), 1, items(5));
+        let mut table = memory.table();
+        table.fresh().unwrap();
+        // Seven stores of a new entry: busy between the first and the last.
+        assert_eq!(table.set_cut(7, 5, 100, k), stored(1, 0));
+        let said = table.read(7, 720, 100);
+        match k {
+            0 => assert_eq!(said, Ok(Reading::Absent)),
+            1..=6 => {
+                assert_eq!(said, Err(Refusal::Busy));
+                assert_eq!(lane(said), Lane::Holding);
+                assert_eq!(table.set(7, 5, 100), Err(Refusal::Busy));
+                assert_eq!(table.delete(7), Err(Refusal::Busy));
+                assert_eq!(table.find(7), Err(Refusal::Busy));
+            }
+            _ => assert_eq!(said, fresh(5, 0)),
+        }
+        // Only fresh helps.
+        table.fresh().unwrap();
+        assert_eq!(table.set_standing_cut(7, 5, 7), stored(1, 0));
+        // Seven stores of a delete.
+        assert_eq!(table.delete_cut(7, k), Ok(()));
+        match (k, table.read(7, 720, 100)) {
+            (0, said) => assert_eq!(said, fresh(5, 0)),
+            (1..=6, said) => assert_eq!(said, Err(Refusal::Busy)),
+            (_, said) => assert_eq!(said, Ok(Reading::Absent)),
+        }
+    }
+}
+
+#[test]
+fn a_damaged_word() {
+    let mut memory = lent(slots(4), 4, items(5));
+    let mut table = memory.table();
+    table.fresh().unwrap();
+    table.set(1, 1, 100).unwrap();
+    for word in [4, 16777216, 65541] {
+        table.slots[1] = word;
+        assert_eq!(table.read(1, 720, 110), Err(Refusal::Damaged));
+    }
+    table.slots[1] = 65540;
+    assert_eq!(table.read(1, 720, 110), fresh(1, 10));
+}
+
+#[test]
+fn lanes() {
+    let by = |permission| lane(fresh(permission, 0));
+    assert_eq!(
+        [by(0), by(1), by(2), by(3), by(4)],
+        [Lane::Holding, Lane::Milking, Lane::Grazing, Lane::Milking, Lane::Holding]
+    );
+    for held in [Ok(Reading::Absent), Ok(Reading::Old { age: 1 }), Ok(Reading::Ahead), Err(Refusal::Busy)] {
+        assert_eq!(lane(held), Lane::Holding);
+    }
+}
+
+#[test]
+fn refusals() {
+    for number in 1..=10 {
+        assert_eq!(Refusal::from_number(number).number(), number);
+        assert_ne!(Refusal::from_number(number), Refusal::Unknown(number));
+    }
+    assert_eq!(Refusal::from_number(11), Refusal::Unknown(11));
+    assert_eq!(Refusal::Busy.to_string(), "busy: a write was cut off");
+}

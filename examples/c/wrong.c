@@ -1,0 +1,39 @@
+/* Uses of the header that a compiler must not let through with -Werror: WRONG says which, and 0 is a right one. */
+#include "boughladder.h"
+
+static uint32_t slots[BOUGHLADDER_SLOTS(64)], counters[16], more[65];
+static uint64_t items[BOUGHLADDER_ITEMS(200)];
+static int32_t signed_words[16];
+BoughladderTable table = BOUGHLADDER_TABLE(slots, counters, items);
+uint16_t wrong(uint32_t *pointer, const BoughladderTable *read_only);
+uint16_t wrong(uint32_t *pointer, const BoughladderTable *read_only) {
+    uint16_t answer = 0;
+#if WRONG == 0
+    BoughladderTable other = BOUGHLADDER_TABLE(slots, counters, items);
+    BOUGHLADDER_CHECK_SHAPE(64, 16, 200);
+    answer = boughladder_table_read(&other, 1, 2, 3).kind;
+#elif WRONG == 1 /* slots and counters swapped */
+    BoughladderTable other = BOUGHLADDER_TABLE(counters, slots, items);
+#elif WRONG == 2 /* a pointer, whose length nobody knows */
+    BoughladderTable other = BOUGHLADDER_TABLE(slots, pointer, items);
+#elif WRONG == 3 /* words of another type */
+    BoughladderTable other = BOUGHLADDER_TABLE(slots, signed_words, items);
+#elif WRONG == 4 /* slots that are no 4N words */
+    BoughladderTable other = BOUGHLADDER_TABLE(more, counters, items);
+#elif WRONG == 5 /* more counters than buckets */
+    BoughladderTable other = BOUGHLADDER_TABLE(slots, more, items);
+#elif WRONG == 6 /* three buckets */
+    BOUGHLADDER_CHECK_SHAPE(3, 1, 200);
+#elif WRONG == 7 /* a refusal that nobody looks at */
+    boughladder_table_set(&table, 1, 2, 3);
+#elif WRONG == 8 /* the same with a plain call */
+    boughladder_delete(slots, 256, counters, 16, items, 800, 1);
+#elif WRONG == 9 /* a task that may only read serves */
+    answer = boughladder_table_serve(read_only, 1, 2, 3).kind;
+#endif
+#if WRONG >= 1 && WRONG <= 5
+    answer = (uint16_t)other.slots_length;
+#endif
+    (void)more, (void)signed_words, (void)pointer, (void)read_only;
+    return answer;
+}
