@@ -56,13 +56,14 @@ class Day:
 
     def __init__(self, seed):
         self.r = random.Random(seed)
-        self.pool = [self.r.choice([n + 1, self.r.getrandbits(64)]) for n in range(self.r.choice([6, 14, 40]))]
+        self.pool = [self.r.choice([n + 1, self.r.getrandbits(64)]) for n in range(self.r.choice([6, 30, 90]))]
         self.now = self.r.choice([0, 100, 2**40])
+        self.rough = self.one_in(2)  # with cuts and pokes: most of its calls are refused
         self.shape()
 
     def shape(self):
         r = self.r
-        self.n, self.v, self.m = 2 << r.randrange(4), r.choice([1, 2, 3, 8]), r.choice([1, 3, 9, 40])
+        self.n, self.v, self.m = 2 << r.randrange(4), r.choice([1, 2, 3, 8]), r.choice([1, 3, 9, 70, 70])
 
     def one_in(self, n):
         return self.r.randrange(n) == 0
@@ -76,7 +77,7 @@ class Day:
 
     def minute(self):
         self.now += self.r.randrange(40)
-        return 2**64 - 1 if self.one_in(80) else max(0, self.now - self.r.randrange(3000)) if self.one_in(8) else self.now
+        return 2**64 - 1 if self.one_in(80) else max(0, self.now - self.r.randrange(3000)) if self.one_in(4) else self.now
 
     def limit(self):
         return self.r.choice([0, 30, 720, 720, 720, 10080, 10081, self.number() if self.one_in(9) else 100])
@@ -87,31 +88,33 @@ class Day:
     def write(self):
         """A set, delete or evict."""
         r, kind = self.r, self.r.randrange(10)
-        if kind < 6:
+        if kind < 7:
             line = ['set', self.animal(), r.choice([0, 1, 2, 3, 2**32 - 1]), self.minute()]
             return line + ['standing'] * self.one_in(7)
         return ['delete', self.animal()] if kind < 8 else ['evict']
 
     def call(self):
         r, kind = self.r, self.r.randrange(100)
-        if kind < 35:
+        if kind < 40:
             return self.write()
-        if kind < 65:
+        if kind < 72:
             return [r.choice(['read', 'serve']), self.animal(), self.limit(), self.minute()]
-        if kind < 76:
-            return ['cut', r.choice([0, 1, 2, 3, 5, 7, 11, 30, self.number()]), *self.write()]
-        if kind < 82:
+        if kind < 78:
             return ['list', r.choice([0, 20 * self.m, 19, 81920, r.randrange(900)])]
-        if kind < 90:
-            run = r.choice(['slots', 'counters', 'items'])
-            good = {'slots': 4 * self.n, 'counters': self.v, 'items': 4 * self.m}[run]
-            return ['poke', run, r.randrange(good + 1), 0 if self.one_in(2) else self.number()]
-        if kind < 93:
+        if kind < 81:
             return ['dump']
-        if kind < 96:
+        if kind < 84:
             return ['hand', r.choice([0, self.m - 1, self.m, self.number()])]
-        self.shape()
-        return ['fresh', self.length(4 * self.n), self.length(self.v), self.length(4 * self.m)]
+        if kind < 85 or kind < 88 and self.rough:
+            self.shape()
+            return ['fresh', self.length(4 * self.n), self.length(self.v), self.length(4 * self.m)]
+        if kind < 94:
+            return ['cut', r.choice([0, 1, 2, 3, 5, 7, 11, 30, self.number()]) if self.rough else 100, *self.write()]
+        if not self.rough:
+            return ['set', self.animal(), 1, self.minute()]
+        run = r.choice(['slots', 'counters', 'items'])
+        good = {'slots': 4 * self.n, 'counters': self.v, 'items': 4 * self.m}[run]
+        return ['poke', run, r.randrange(good + 1), 0 if self.one_in(2) else self.number()]
 
     def digits(self, number):
         zeros = self.r.choice([1, 2, 30, 400]) if self.one_in(25) else 0
@@ -156,7 +159,7 @@ class Day:
         if self.one_in(90):
             return bytes(r.choice(b'0123456789 \t#setcut\x00\x0b\x0c\r\xff\xc2\xa0') for _ in range(r.randrange(60)))
         words = [self.digits(w) if isinstance(w, int) else w.encode() for w in self.call()]
-        if self.one_in(6):
+        if self.one_in(8):
             words = self.spoilt(words)
         between = [b' '] * 12 + [b'\t', b'  ', b' \t ', b' ' * 90]
         text = b''.join(r.choice(between) + w if at else w for at, w in enumerate(words))
@@ -170,7 +173,7 @@ class Day:
         r = self.r
         ends = r.choice([[b'\n'], [b'\r\n'], [b'\n', b'\n', b'\r\n']])
         first = b'fresh %d %d %d' % (4 * self.n, self.v, 4 * self.m)
-        parts = [r.choice([b'', b'', MARK, MARK * 2, MARK[:2]]), first if not self.one_in(6) else self.line()]
+        parts = [r.choice([b'', b'', MARK]), first if not self.one_in(6) else self.line()]
         for _ in range(lines):
             parts += [r.choice(ends), self.line()]
         return b''.join(parts) + r.choice([b'\n', b'\r\n', b'', b'\r', b'\n\n', b'\n\r', b'#'])
