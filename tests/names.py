@@ -124,6 +124,10 @@ def complaints(document):
         for target in re.findall(r'\]\(([^)#]+)', line):
             if not target.startswith('http') and not (document.parent / target).exists():
                 yield number, target, 'no such file'
+        for target, heading in re.findall(r'\]\(([^)#]*)#([^)]+)\)', line):
+            page = document.parent / target if target else document
+            if page.exists() and heading not in {re.sub(r'[^\w -]', '', h).strip().lower().replace(' ', '-') for h in re.findall('^#+ (.*)', page.read_text(), re.M)}:
+                yield number, heading, 'no such heading'
         if line.startswith('    '):
             for word in line.split():
                 if re.match(r'\.?[\w.]*/', word) and (TOP / word.removeprefix('./').split('/')[0]).exists() and not exists(word, document):
