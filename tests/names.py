@@ -17,7 +17,7 @@ SKIP = {'.git', 'target', 'dist', '__pycache__'}
 
 # Sections that speak of what is not there (yet, or any more).
 PASSED_OVER = {
-    'docs/replay-format.md': ['## What the wishes add', '## How a line is added'],  # lines of later wishes
+    'docs/replay-format.md': ['## What the wishes add'],  # lines of later wishes
     'docs/landings/00-ready.md': ['## Renames', '## Check times'],                  # the names before that landing
 }
 # Single names, with the reason.
@@ -165,7 +165,7 @@ def main(documents):
     for document in documents:
         for number, name, why in complaints(document):
             wrong += 1
-            print('%s:%d: `%s`: %s' % (document, number, name, why))
+            print('%s:%d: `%s`: %s' % (document.relative_to(TOP) if document.is_relative_to(TOP) else document, number, name, why))
     print('%d documents, %d wrong names' % (len(documents), wrong))
     return wrong > 0
 
