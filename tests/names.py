@@ -72,6 +72,8 @@ HEADER = (TOP / 'include/boughladder.h').read_text()
 
 def exists(name, document):
     """Whether a path is there, as it stands, below crates/, or beside the document; .antt and .c may be left out."""
+    if name.startswith('/'):
+        return False
     name = name.rstrip('/').removeprefix('./').replace('…', '*')
     for base in TOP, TOP / 'crates', TOP / 'crates/model', document.parent:
         for end in '', '.antt', '.c':
@@ -131,7 +133,7 @@ def complaints(document):
                 yield number, heading, 'no such heading'
         if line.startswith('    '):
             for word in line.split():
-                if re.match(r'\.?[\w.]*/', word) and (TOP / word.removeprefix('./').split('/')[0]).exists() and not exists(word, document):
+                if re.match(r'(\./)?\w', word) and '/' in word and (TOP / word.removeprefix('./').split('/')[0]).exists() and not exists(word, document):
                     yield number, word, 'no such file'
             continue
         for word in re.findall(r'(?<![\w/`.-])[A-Za-z][\w/-]*\.(?:md|py|antt|svg|calls|answers)\b', re.sub('`[^`]*`', '', line)):

@@ -37,7 +37,7 @@ def main():
         for number, block in blocks(path):
             command = re.fullmatch(r'\./replay --echo (\S+)', block[0])
             calls = [found.group(1) for line in block if (found := re.match(r'\d+: (.*?) -> ', line))]
-            if command and len(block) > 1:
+            if command and calls:
                 shown, truth = block[1:], echoed(b'', command.group(1))
                 good = any(truth[n:n + len(shown)] == shown for n in range(len(truth)))
             elif block[0].startswith('1: '):
