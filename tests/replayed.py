@@ -77,7 +77,9 @@ class Day:
 
     def minute(self):
         self.now += self.r.randrange(40)
-        return 2**64 - 1 if self.one_in(80) else max(0, self.now - self.r.randrange(3000)) if self.one_in(4) else self.now
+        if self.one_in(80):
+            return 2**64 - 1
+        return max(0, self.now - self.r.randrange(3000)) if self.one_in(4) else self.now
 
     def limit(self):
         return self.r.choice([0, 30, 720, 720, 720, 10080, 10081, self.number() if self.one_in(9) else 100])
@@ -121,15 +123,17 @@ class Day:
         return b'0' * zeros + b'%d' % number
 
     def large(self):
-        return self.r.choice([b'18446744073709551616', b'99999999999999999999', b'4294967296', b'81921', b'9' * 40, b'00' + b'8' * 21])
+        return self.r.choice([b'18446744073709551616', b'99999999999999999999', b'4294967296', b'81921', b'9' * 40,
+                              b'00' + b'8' * 21])
 
     def no_number(self):
-        return self.r.choice([b'-1', b'+1', b'1x', b'x1', b'0x10', b'1.5', b'1,000', b'1_0', b'--', b'\xd9\xa1', b'\xef\xbc\x91'])
+        return self.r.choice([b'-1', b'+1', b'1x', b'x1', b'0x10', b'1.5', b'1,000', b'1_0', b'--', b'\xd9\xa1',
+                              b'\xef\xbc\x91'])
 
     def misspelt(self, word):
         r, at = self.r, self.r.randrange(len(word) + 1)
-        return r.choice([word.upper(), word.capitalize(), word[:at], word[:at] + word[at:at + 1] + word[at:], word + b's', word + b'\x00', MARK + word,
-                         r.choice(WORDS), b'judge', b'plan', b'\xff\xfe', word + word])
+        return r.choice([word.upper(), word.capitalize(), word[:at], word[:at] + word[at:at + 1] + word[at:],
+                         word + b's', word + b'\x00', MARK + word, r.choice(WORDS), b'judge', b'plan', b'\xff\xfe', word + word])
 
     def spoilt(self, words):
         """The words of a line with one or two slips."""
@@ -147,7 +151,8 @@ class Day:
             elif kind == 4:
                 words = words[:at] + [r.choice(WORDS), *words[at:]]
             elif words[at].isdigit():
-                words = words[:at] + [r.choice([self.large, self.large, self.no_number, lambda: r.choice(WORDS)])()] + words[at + 1:]
+                other = r.choice([self.large(), self.large(), self.no_number(), r.choice(WORDS)])
+                words = words[:at] + [other] + words[at + 1:]
             else:
                 words = words[:at] + [self.misspelt(words[at])] + words[at + 1:]
         return words
@@ -188,8 +193,9 @@ def samples():
 
 
 def fresh_lines(seed, files, lines):
-    edges = [b'', b'\n', b'\r', b'\r\n', b'#', b'd', b'dump', b'dump\r', b'\x00', MARK, MARK + b'\n', MARK + b'dump', MARK + MARK + b'dump',
-             MARK[:1], MARK[:2] + b'dump', b'\n' + MARK + b'dump', b' ' + MARK + b'dump\n', b'dump' + MARK]
+    edges = [b'', b'\n', b'\r', b'\r\n', b'#', b'd', b'dump', b'dump\r', b'\x00', MARK, MARK + b'\n', MARK + b'dump',
+             MARK + MARK + b'dump', MARK[:1], MARK[:2] + b'dump', b'\n' + MARK + b'dump', b' ' + MARK + b'dump\n',
+             b'dump' + MARK]
     for n, data in enumerate(edges):
         compare('edge %d' % n, data)
     answers = sum(compare('seed %d file %d' % (seed, n), Day('%d %d' % (seed, n)).text(lines)) for n in range(files))
