@@ -133,7 +133,8 @@ class Day:
     def misspelt(self, word):
         r, at = self.r, self.r.randrange(len(word) + 1)
         return r.choice([word.upper(), word.capitalize(), word[:at], word[:at] + word[at:at + 1] + word[at:],
-                         word + b's', word + b'\x00', MARK + word, r.choice(WORDS), b'judge', b'plan', b'\xff\xfe', word + word])
+                         word + b's', word + b'\x00', MARK + word, r.choice(WORDS), b'judge', b'plan', b'\xff\xfe',
+                         word + word])
 
     def spoilt(self, words):
         """The words of a line with one or two slips."""
