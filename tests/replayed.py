@@ -1,0 +1,212 @@
+#!/usr/bin/env python3
+"""Compares ./replay with the second voice, samples/check.py, byte for byte, with --echo and without.
+
+    tests/replayed.py samples              the samples, and their .answers
+    tests/replayed.py random SEED [FILES [LINES]]
+                                           fresh random files: good lines, bad ones of every kind, odd line ends
+
+The status must be 2 if some line is not understood, else 0. A file on which they differ is kept in target/.
+"""
+import pathlib
+import random
+import re
+import subprocess
+import sys
+
+TOP = pathlib.Path(__file__).resolve().parent.parent
+MARK = b'\xef\xbb\xbf'
+WORDS = b'fresh set read serve delete evict hand cut list poke dump slots counters items standing'.split()
+
+
+def run(command, data):
+    done = subprocess.run(command, input=data, stdout=subprocess.PIPE, stderr=subprocess.PIPE)
+    return done.stdout, done.returncode, done.stderr
+
+
+def compare(name, data, answers=None):
+    """The number of answer lines; ends the program at a difference."""
+    for echo in [], ['--echo']:
+        ours = run([TOP / 'replay', *echo, '-'], data)
+        second = run([sys.executable, TOP / 'samples/check.py', *echo, '-'], data)
+        status = 2 if re.search(rb'^line \d+: not understood', second[0], re.M) else 0
+        wrong = None
+        if ours[0] != second[0]:
+            wrong = 'the replay program and check.py differ'
+        elif answers is not None and not echo and ours[0] != answers:
+            wrong = 'both differ from the .answers'
+        elif ours[1] != status or second[1] != status:
+            wrong = 'status %d, check.py %d, expected %d' % (ours[1], second[1], status)
+        elif ours[2]:
+            wrong = 'said on standard error: %r' % ours[2][:200]
+        if wrong:
+            kept = TOP / 'target/difference.calls'
+            kept.write_bytes(data)
+            print('%s%s: %s' % (name, ' with --echo' if echo else '', wrong))
+            for n, (a, b) in enumerate(zip(ours[0].split(b'\n'), second[0].split(b'\n')), 1):
+                if a != b:
+                    print('line %d of the output:\n  replay   %r\n  check.py %r' % (n, a[:200], b[:200]))
+                    break
+            print('the file is kept: %s' % kept)
+            sys.exit(1)
+    return ours[0].count(b'\n')
+
+
+class Day:
+    """Lines for one small table: few animals, so that they are often held, and in each other's way."""
+
+    def __init__(self, seed):
+        self.r = random.Random(seed)
+        self.pool = [self.r.choice([n + 1, self.r.getrandbits(64)]) for n in range(self.r.choice([6, 30, 90]))]
+        self.now = self.r.choice([0, 100, 2**40])
+        self.rough = self.one_in(2)  # with cuts and pokes: most of its calls are refused
+        self.shape()
+
+    def shape(self):
+        r = self.r
+        self.n, self.v, self.m = 2 << r.randrange(4), r.choice([1, 2, 3, 8]), r.choice([1, 3, 9, 70, 70])
+
+    def one_in(self, n):
+        return self.r.randrange(n) == 0
+
+    def number(self):
+        r = self.r
+        return r.choice([0, 1, r.randrange(50), r.randrange(2**32), 2**32 - 1, 2**32, r.getrandbits(64), 2**64 - 1])
+
+    def animal(self):
+        return 0 if self.one_in(60) else self.number() if self.one_in(20) else self.r.choice(self.pool)
+
+    def minute(self):
+        self.now += self.r.randrange(40)
+        if self.one_in(80):
+            return 2**64 - 1
+        return max(0, self.now - self.r.randrange(3000)) if self.one_in(4) else self.now
+
+    def limit(self):
+        return self.r.choice([0, 30, 720, 720, 720, 10080, 10081, self.number() if self.one_in(9) else 100])
+
+    def length(self, good):
+        return self.number() if self.one_in(30) else good + (self.one_in(15) and self.r.choice([-1, 1, 4]))
+
+    def write(self):
+        """A set, delete or evict."""
+        r, kind = self.r, self.r.randrange(10)
+        if kind < 7:
+            line = ['set', self.animal(), r.choice([0, 1, 2, 3, 2**32 - 1]), self.minute()]
+            return line + ['standing'] * self.one_in(7)
+        return ['delete', self.animal()] if kind < 8 else ['evict']
+
+    def call(self):
+        r, kind = self.r, self.r.randrange(100)
+        if kind < 40:
+            return self.write()
+        if kind < 72:
+            return [r.choice(['read', 'serve']), self.animal(), self.limit(), self.minute()]
+        if kind < 78:
+            return ['list', r.choice([0, 20 * self.m, 19, 81920, r.randrange(900)])]
+        if kind < 81:
+            return ['dump']
+        if kind < 84:
+            return ['hand', r.choice([0, self.m - 1, self.m, self.number()])]
+        if kind < 85 or kind < 88 and self.rough:
+            self.shape()
+            return ['fresh', self.length(4 * self.n), self.length(self.v), self.length(4 * self.m)]
+        if kind < 94:
+            return ['cut', r.choice([0, 1, 2, 3, 5, 7, 11, 30, self.number()]) if self.rough else 100, *self.write()]
+        if not self.rough:
+            return ['set', self.animal(), 1, self.minute()]
+        run = r.choice(['slots', 'counters', 'items'])
+        good = {'slots': 4 * self.n, 'counters': self.v, 'items': 4 * self.m}[run]
+        return ['poke', run, r.randrange(good + 1), 0 if self.one_in(2) else self.number()]
+
+    def digits(self, number):
+        zeros = self.r.choice([1, 2, 30, 400]) if self.one_in(25) else 0
+        return b'0' * zeros + b'%d' % number
+
+    def large(self):
+        return self.r.choice([b'18446744073709551616', b'99999999999999999999', b'4294967296', b'81921', b'9' * 40,
+                              b'00' + b'8' * 21])
+
+    def no_number(self):
+        return self.r.choice([b'-1', b'+1', b'1x', b'x1', b'0x10', b'1.5', b'1,000', b'1_0', b'--', b'\xd9\xa1',
+                              b'\xef\xbc\x91'])
+
+    def misspelt(self, word):
+        r, at = self.r, self.r.randrange(len(word) + 1)
+        return r.choice([word.upper(), word.capitalize(), word[:at], word[:at] + word[at:at + 1] + word[at:],
+                         word + b's', word + b'\x00', MARK + word, r.choice(WORDS), b'judge', b'plan', b'\xff\xfe',
+                         word + word])
+
+    def spoilt(self, words):
+        """The words of a line with one or two slips."""
+        r = self.r
+        for _ in range(r.choice([1, 1, 1, 2])):
+            at, kind = r.randrange(len(words) or 1), r.randrange(8)
+            if kind == 0 or not words:
+                words = words[:at]
+            elif kind == 1:
+                words = words[:at] + words[at + 1:]
+            elif kind == 2:
+                words = words + [self.digits(self.number())] * r.choice([1, 1, 2, 9])
+            elif kind == 3:
+                words = words + [r.choice(WORDS + [b'now', self.no_number(), self.large()])]
+            elif kind == 4:
+                words = words[:at] + [r.choice(WORDS), *words[at:]]
+            elif words[at].isdigit():
+                other = r.choice([self.large(), self.large(), self.no_number(), r.choice(WORDS)])
+                words = words[:at] + [other] + words[at + 1:]
+            else:
+                words = words[:at] + [self.misspelt(words[at])] + words[at + 1:]
+        return words
+
+    def line(self):
+        r = self.r
+        if self.one_in(14):
+            return r.choice([b'', b' ', b'\t \t', b'#', b'# set 1 2 3', b'  # \xff\x00', b'#' * 300])
+        if self.one_in(90):
+            return bytes(r.choice(b'0123456789 \t#setcut\x00\x0b\x0c\r\xff\xc2\xa0') for _ in range(r.randrange(60)))
+        words = [self.digits(w) if isinstance(w, int) else w.encode() for w in self.call()]
+        if self.one_in(8):
+            words = self.spoilt(words)
+        between = [b' '] * 12 + [b'\t', b'  ', b' \t ', b' ' * 90]
+        text = b''.join(r.choice(between) + w if at else w for at, w in enumerate(words))
+        if self.one_in(12):
+            text = r.choice(between) + text
+        if self.one_in(12):
+            text += r.choice([b' ', b'\t', b'#', b' # the end', b'\r', b'\r ', b' \r', b'\x0c', b'\xc2\xa0'])
+        return text
+
+    def text(self, lines):
+        r = self.r
+        ends = r.choice([[b'\n'], [b'\r\n'], [b'\n', b'\n', b'\r\n']])
+        first = b'fresh %d %d %d' % (4 * self.n, self.v, 4 * self.m)
+        parts = [r.choice([b'', b'', MARK]), first if not self.one_in(6) else self.line()]
+        for _ in range(lines):
+            parts += [r.choice(ends), self.line()]
+        return b''.join(parts) + r.choice([b'\n', b'\r\n', b'', b'\r', b'\n\n', b'\n\r', b'#'])
+
+
+def samples():
+    files = sorted((TOP / 'samples').glob('*.calls'))
+    for path in files:
+        compare(path.name, path.read_bytes(), path.with_suffix('.answers').read_bytes())
+    print('%d samples' % len(files))
+    return not files
+
+
+def fresh_lines(seed, files, lines):
+    edges = [b'', b'\n', b'\r', b'\r\n', b'#', b'd', b'dump', b'dump\r', b'\x00', MARK, MARK + b'\n', MARK + b'dump',
+             MARK + MARK + b'dump', MARK[:1], MARK[:2] + b'dump', b'\n' + MARK + b'dump', b' ' + MARK + b'dump\n',
+             b'dump' + MARK]
+    for n, data in enumerate(edges):
+        compare('edge %d' % n, data)
+    answers = sum(compare('seed %d file %d' % (seed, n), Day('%d %d' % (seed, n)).text(lines)) for n in range(files))
+    print('seed %d: %d files of %d lines, %d lines of answers, no difference' % (seed, files, lines, answers))
+
+
+if __name__ == '__main__':
+    if sys.argv[1:] == ['samples']:
+        sys.exit(samples())
+    if len(sys.argv) < 3 or sys.argv[1] != 'random':
+        sys.exit(__doc__)
+    numbers = [int(n) for n in sys.argv[2:5]]
+    fresh_lines(*numbers, *(30, 500)[len(numbers) - 1:])
