@@ -83,8 +83,8 @@ module _ {row line : List ℕ} {i j k : ℕ} {p w : Word} (a : Along row line i 
       parted
       (ap (parts k) q
       ∙ bool (λ t. parts k (behind (part line (w .start) (w .end))) ≡ parting k (words (drop i row)) (words (drop j line))) (eqb (w .start) (w .end))
-        (λ s. rw (next-p .none-left e, next-w .none-left (eqb-true (w .start) (w .end) s), part-nothing line (w .start) (w .end) (eqb-true (w .start) (w .end) s)))
-        (λ s. rw (next-p .none-left e, next-w .next-word (eqb-false (w .start) (w .end) s)))
+      (λ s. rw (next-p .none-left e, next-w .none-left (eqb-true (w .start) (w .end) s), part-nothing line (w .start) (w .end) (eqb-true (w .start) (w .end) s)))
+      (λ s. rw (next-p .none-left e, next-w .next-word (eqb-false (w .start) (w .end) s)))
       ∙ a .ahead)
 
   module _ (ne-p : p .start ≢ p .end) where
@@ -96,8 +96,8 @@ module _ {row line : List ℕ} {i j k : ℕ} {p w : Word} (a : Along row line i 
 
     module _ (ne-w : w .start ≢ w .end) {t : Bool} (e : t ≡ takes (part row (p .start) (p .end)) (part line (w .start) (w .end))) where
       step : {u : Bool} → u ≡ t → parting 0 (words row) (words line)
-            ≡ choose u (parting (k + 1) (words (drop (p .end) row)) (words (drop (w .end) line)))
-              (parts k (instead (bound (part row (p .start) (p .end))) (part line (w .start) (w .end))))
+          ≡ choose u (parting (k + 1) (words (drop (p .end) row)) (words (drop (w .end) line)))
+          (parts k (instead (bound (part row (p .start) (p .end))) (part line (w .start) (w .end))))
       unfolding parting
       step {u} q = sym (a .ahead) ∙ rw (next-p .next-word ne-p, next-w .next-word ne-w, q ∙ e, add-one)
 

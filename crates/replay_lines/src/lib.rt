@@ -167,14 +167,20 @@ fn part_from(row: &[u8], line: &[u8]) -> Parting
         let Word { start: p, end: q } = replay_words::next_word(row, i);
         let Word { start: s, end: e } = replay_words::next_word(line, j);
         if p == q {
-            return Parting { far, why: behind(&line[s..e]) };
+            return Parting {
+                far,
+                why: behind(&line[s..e]),
+            };
         }
         if s == e {
             return Parting { far, why: TOO_FEW };
         }
         if !takes(&row[p..q], &line[s..e]) {
             let bound = bound_of(&row[p..q]);
-            return Parting { far, why: instead(bound, &line[s..e]) };
+            return Parting {
+                far,
+                why: instead(bound, &line[s..e]),
+            };
         }
         far += 1;
         i = q;
@@ -197,7 +203,10 @@ fn why_none(rows: &[u8], line: &[u8]) -> u64
     ensures { λ r. ⌜ r ≡ why-not (lines (now (rows .entry))) (words (now (line .entry))) ⌝ }
 {
     let mut from: usize = 0;
-    let mut best = Parting { far: 0, why: UNKNOWN_WORD };
+    let mut best = Parting {
+        far: 0,
+        why: UNKNOWN_WORD,
+    };
     while from < rows.len() {
         let Piece { end, next } = replay_words::piece_at(rows, from);
         best = further(best, part_from(&rows[from..end], line));

@@ -182,7 +182,7 @@ module _ {slots counters items : List ℕ} {st : State} (s v i : ℕ) (k : Held 
         held = back-held slots counters items ys cs zs s v i hs hv hi es ev ei k refl refl refl;
         same-number = refl;
         same-from = refl;
-      same-missed = refl;
+        same-missed = refl;
       }))
       (λ _ g t l. let z : _≡_ {A = ℕ} 1 0 = ap (λ (a : Answer). length (paper a .values)) (sym (ap said-starting e) ∙ t) in absurd (omega arith))
       refl (f .told) (f .left)

@@ -222,7 +222,17 @@ fn portion(
         if out.len() - state.at < 294912 {
             return state;
         }
-        state = next_line(rows, calls, echo, slots, counters, items, records, out, state);
+        state = next_line(
+            rows,
+            calls,
+            echo,
+            slots,
+            counters,
+            items,
+            records,
+            out,
+            state,
+        );
     }
     state
 }
@@ -278,7 +288,17 @@ fn portions(
     };
     let mut written: u64 = 0;
     while state.from < calls.len() {
-        let full = portion(rows, calls, echo, slots, counters, items, records, out, state);
+        let full = portion(
+            rows,
+            calls,
+            echo,
+            slots,
+            counters,
+            items,
+            records,
+            out,
+            state,
+        );
         let end = full.at;
         let sent = hand_over(&out[..end], calls, echo, written);
         if !sent.whole {

@@ -4,5 +4,5 @@ use libc::STDIN_FILENO;
 fn main() {
     let mut text = io::large_buffer();
     let n = io::read_full(STDIN_FILENO, &mut text);
-    replay_loop::replay(&text[..n]);
+    replay_loop::replay(&text[..n], false);
 }
