@@ -1,8 +1,8 @@
--- `replay::arguments` meets its contract. Assumes nothing.
+-- `replay_program::arguments` meets its contract. Assumes nothing.
 use Prim.Native.Nat.{_-_, _≤_}
 use borrow.Author.Needs.{needs}
-use Rattle.replay.proofs.arguments.Statement.{statement}
-use Rattle.replay.proofs.arguments.Tie as tie
+use Rattle.replay_program.proofs.arguments.Statement.{statement}
+use Rattle.replay_program.proofs.arguments.Tie as tie
 
 abbrev Inv-loop : tie.InvT-loop
 Inv-loop count asked₀ i₀ asked i = 1 ≤ i
