@@ -62,3 +62,7 @@ pub sum-reads : (l : List ℕ) (t : ℕ) {w : ℕ} (ws : List ℕ) → (1 ≤ t)
     → 4 * (w % 65536) < length l
 unfolding tag place
 sum-reads l t ws known d e = rw (known .1) (omega (arith, sum-in (length l / 4) t (known .0) ws d (rw (known .1) at e)))
+
+-- and no word is damaged where the test said so
+pub undamaged : (n : ℕ) (ws : List ℕ) {k : ℕ} {b : Bool} → k ≡ n → b ≡ any (damaged k) ws → b ≡ false → any (damaged n) ws ≡ false
+undamaged n ws p e f = rw (← p) (sym e ∙ f)
