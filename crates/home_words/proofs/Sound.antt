@@ -66,3 +66,9 @@ sum-reads l t ws known d e = rw (known .1) (omega (arith, sum-in (length l / 4) 
 -- and no word is damaged where the test said so
 pub undamaged : (n : ℕ) (ws : List ℕ) {k : ℕ} {b : Bool} → k ≡ n → b ≡ any (damaged k) ws → b ≡ false → any (damaged n) ws ≡ false
 undamaged n ws p e f = rw (← p) (sym e ∙ f)
+
+-- the place of a hit lies in the items
+pub hit-reads : (l : List ℕ) (t x : ℕ) (ws : List ℕ) → 1 ≤ t → {k : ℕ} {b : Bool} → k ≡ length l / 4 → b ≡ any (damaged k) ws → b ≡ false
+    → {w : ℕ} → w ≡ found-word (first (leads l t x) ws) → w ≢ 0 → 4 * (w % 65536) + 4 ≤ length l
+unfolding place
+hit-reads l t x ws pos p e f q nz = omega (arith, found-in (length l / 4) t pos l x ws (undamaged (length l / 4) ws p e f) q nz)
