@@ -75,3 +75,9 @@ module _ (W : Ways) (m : Mem) (right : right-lengths W m ≡ true) where
 -- where no early refusal is due
 pub passed-places : (W : Ways) (s c i : List ℕ) (x : ℕ) (b : Bool) {n : ℕ} → n ≡ early (right-lengths W (mem s c i)) x b → n ≡ 0 → length i / 4 < 2 ^ 32
 passed-places W s c i x b e z = places-fit W s c i (passed-lengths W (mem s c i) x b e z)
+
+pub passed-some : (W : Ways) (s c i : List ℕ) (x : ℕ) (b : Bool) {n : ℕ} → n ≡ early (right-lengths W (mem s c i)) x b → n ≡ 0 → 1 ≤ length i / 4
+passed-some W s c i x b e z = places-some W s c i (passed-lengths W (mem s c i) x b e z)
+
+pub passed-named : (W : Ways) (s c i : List ℕ) (x : ℕ) (b : Bool) {n : ℕ} → n ≡ early (right-lengths W (mem s c i)) x b → n ≡ 0 → length i / 4 ≤ 65536
+passed-named W s c i x b e z = places-named W s c i (passed-lengths W (mem s c i) x b e z)
