@@ -225,6 +225,23 @@ fn look_whole(slots: &[u32], counters: &[u32], items: &[u64], animal: u64) -> Lo
     }
 }
 
+// enter_new behind a call of its own: what it takes is laid out in memory only where it is called, and an update goes by.
+fn enter_apart(
+    slots: &mut [u32],
+    counters: &mut [u32],
+    items: &mut [u64],
+    g: Grant,
+    homes: Homes,
+    k: u64,
+) -> Setting
+    requires { ⌜ Homed four (mem (now slots) (now counters) (now items)) (g .animal) homes ⌝ }
+    ensures { λ r. ⌜ Does (entering-new four (mem (now (slots .entry)) (now (counters .entry)) (now (items .entry))) g) k
+        (mem (now (slots .entry)) (now (counters .entry)) (now (items .entry)))
+        (mem (now (slots .exit)) (now (counters .exit)) (now (items .exit))) (said-setting r) ⌝ }
+{
+    enter_new(slots, counters, items, g, homes, k)
+}
+
 // Set. Beside its cut form and not by way of it: an update is then compiled in one piece, and takes half the time.
 pub fn set(slots: &mut [u32], counters: &mut [u32], items: &mut [u64], g: Grant) -> Setting
     ensures { λ r. ⌜ WholeAs four (mem (now (slots .entry)) (now (counters .entry)) (now (items .entry))) (set-animal g)
@@ -241,7 +258,7 @@ pub fn set(slots: &mut [u32], counters: &mut [u32], items: &mut [u64], g: Grant)
     let homes = looked.homes;
     match look {
         Look::Refused(n) => Setting::Refused(n),
-        Look::Absent => enter_new(slots, counters, items, g, homes, k),
+        Look::Absent => enter_apart(slots, counters, items, g, homes, k),
         Look::At(w) => update_held(counters, items, homes, w, g, k),
     }
 }
