@@ -1,45 +1,62 @@
 /*
- * count.c: the same 2,000 calls of each kind on both tables at 90 % load, for `valgrind --tool=callgrind`, which counts
- * the instructions. Run by bench/run where valgrind is installed.
+ * count.c: the same 2,000 calls of each kind on each table at 90 % load, for `valgrind --tool=callgrind`, which counts
+ * the instructions. Run by bench/run where valgrind is installed. The second C table has no evict.
  */
 #include "anchor.h"
 #include "herd.h"
+#include "second.h"
 
 #include <stdio.h>
 #include <string.h>
 
 #define CALLS 2000
 
-static Table ours, theirs;
+static Table ours, theirs, others;
+
+/* How each table is passed to its calls. */
+#define boughladder_TABLE TABLE
+#define anchor_TABLE TABLE
+#define second_TABLE &second
 
 /* Not inlined, so that callgrind tells each kind of work by its name. */
-#define WORK __attribute__((noinline)) static void
-#define WORKS(who)                                                                                                    \
-    WORK who##_reads(Table *t) {                                                                                      \
-        for (size_t i = 0; i < CALLS; i++) t->sum += who##_read(TABLE, i % 10 ? held[i] : i + 1, LIMIT, NOW).kind;    \
-    }                                                                                                                 \
-    WORK who##_serves(Table *t) {                                                                                     \
-        for (size_t i = 0; i < CALLS; i++) t->sum += who##_serve(TABLE, i % 10 ? held[i] : i + 1, LIMIT, NOW).kind;   \
-    }                                                                                                                 \
-    WORK who##_updates(Table *t) {                                                                                    \
-        for (size_t i = 0; i < CALLS; i++) t->sum += who##_set(TABLE, held[i], 1, NOW, 0).refusal;                    \
-    }                                                                                                                 \
-    WORK who##_deletes(Table *t) {                                                                                    \
-        for (size_t i = 0; i < CALLS; i++) t->sum += who##_delete(TABLE, held[i]);                                    \
-    }                                                                                                                 \
-    WORK who##_new(Table *t) { /* into the places that the deletes left, each the lowest vacant one */                \
-        for (size_t i = 0; i < CALLS; i++) t->sum += who##_set(TABLE, held[i], 1, NOW, 0).visits;                     \
-    }                                                                                                                 \
-    WORK who##_evicts(Table *t) {                                                                                     \
-        size_t hand = 0;                                                                                              \
-        for (size_t i = 0; i < CALLS; i++) {                                                                          \
-            BoughladderEvicting e = who##_evict(TABLE, hand);                                                         \
-            t->sum += e.looked;                                                                                       \
-            hand = e.hand;                                                                                            \
-        }                                                                                                             \
+#define WORK(name)                                           \
+    __attribute__((noinline)) static void name(Table *t) {   \
+        const Second second = {TABLE};                       \
+        (void)second;
+#define WORKS(who)                                                                                                      \
+    WORK(who##_reads)                                                                                                   \
+        for (size_t i = 0; i < CALLS; i++)                                                                              \
+            t->sum += who##_read(who##_TABLE, i % 10 ? held[i] : i + 1, LIMIT, NOW).kind;                               \
+    }                                                                                                                   \
+    WORK(who##_serves)                                                                                                  \
+        for (size_t i = 0; i < CALLS; i++)                                                                              \
+            t->sum += who##_serve(who##_TABLE, i % 10 ? held[i] : i + 1, LIMIT, NOW).kind;                              \
+    }                                                                                                                   \
+    WORK(who##_updates)                                                                                                 \
+        for (size_t i = 0; i < CALLS; i++) t->sum += who##_set(who##_TABLE, held[i], 1, NOW, 0).refusal;                \
+    }                                                                                                                   \
+    WORK(who##_deletes)                                                                                                 \
+        for (size_t i = 0; i < CALLS; i++) t->sum += who##_delete(who##_TABLE, held[i]);                                \
+    }                                                                                                                   \
+    WORK(who##_new) /* into the places that the deletes left, each the lowest vacant one */                             \
+        for (size_t i = 0; i < CALLS; i++) t->sum += who##_set(who##_TABLE, held[i], 1, NOW, 0).visits;                 \
+    }
+#define EVICTS(who)                                                                                                     \
+    WORK(who##_evicts)                                                                                                  \
+        size_t hand = 0;                                                                                                \
+        for (size_t i = 0; i < CALLS; i++) {                                                                            \
+            BoughladderEvicting e = who##_evict(TABLE, hand);                                                           \
+            t->sum += e.looked;                                                                                         \
+            hand = e.hand;                                                                                              \
+        }                                                                                                               \
     }
 WORKS(boughladder)
 WORKS(anchor)
+WORKS(second)
+EVICTS(boughladder)
+EVICTS(anchor)
+
+#define ALL(works) boughladder_##works(&ours), anchor_##works(&theirs), second_##works(&others)
 
 int main(void) {
     Table *t = &ours;
@@ -47,15 +64,16 @@ int main(void) {
         uint64_t animal = any();
         if (boughladder_set(TABLE, animal, 1, NOW - any() % 1000, 0).refusal == 0) held[herd++] = animal;
     }
-    memcpy(&theirs, &ours, sizeof ours);
-    boughladder_reads(&ours), anchor_reads(&theirs);
-    boughladder_serves(&ours), anchor_serves(&theirs);
-    boughladder_updates(&ours), anchor_updates(&theirs);
-    boughladder_deletes(&ours), anchor_deletes(&theirs);
-    boughladder_new(&ours), anchor_new(&theirs);
+    theirs = others = ours;
+    ALL(reads);
+    ALL(serves);
+    ALL(updates);
+    ALL(deletes);
+    ALL(new);
+    int same = memcmp(&ours, &others, sizeof ours) == 0;
     for (size_t p = 0; p < M; p++) ours.items[4 * p + 3] = theirs.items[4 * p + 3] = 0;
     boughladder_evicts(&ours), anchor_evicts(&theirs);
-    if (memcmp(&ours, &theirs, sizeof ours) != 0) {
+    if (!same || memcmp(&ours, &theirs, sizeof ours) != 0) {
         puts("DIFFERENCE between the tables");
         return 1;
     }

@@ -1,7 +1,8 @@
 /*
- * differ.c: the same random calls on the proved table and on the anchor, with equal memory.
+ * differ.c: the same random calls on the proved table, on the anchor and on the second C table, with equal memory.
  * After EVERY call, in every shape, all fields of the reply and all words of the three runs are compared (and, after a
- * list, all bytes of the buffer). Use: differ [seed]. It ends with 1 at the first difference.
+ * list, all bytes of the buffer). The second table has read, serve, set and delete; its other calls are the anchor's.
+ * Use: differ [seed [percent]], the percent being the share of 4.6 million calls. It ends with 1 at the first difference.
  *
  * An episode is one shape, one herd and one kind of memory:
  *     clean    fresh, then whole calls; the herd grows and shrinks between empty and full
@@ -10,6 +11,7 @@
  *     garbage  all three runs hold random words from the start
  */
 #include "anchor.h"
+#include "second.h"
 
 #include <inttypes.h>
 #include <stdio.h>
@@ -21,10 +23,12 @@
 #define BUFFER (20 * 4096 + 64)
 #define POOL 9000
 
+enum { OURS, ANCHOR, SECOND, TABLES };
 enum { CLEAN, CUT, POKED, GARBAGE, KINDS };
 enum { FRESH, READ, SERVE, FIND, SET, SETCUT, DELETE, DELETECUT, EVICT, EVICTCUT, LIST, CALLS };
 static const char *const call_names[CALLS] = {"fresh", "read", "serve", "find", "set", "set_cut", "delete", "delete_cut",
                                               "evict", "evict_cut", "list"};
+static const char *const table_names[TABLES] = {"ours", "anchor", "second"};
 static const char *const kind_names[KINDS] = {"clean", "cut", "poked", "garbage"};
 
 /* One table: its block of memory, and where the runs lie in it. */
@@ -48,10 +52,10 @@ typedef struct {
     uint32_t permission, standing;
 } Call;
 
-static Table ours, theirs;
+static Table tables[TABLES], *const ours = &tables[OURS];
 static uint64_t pool[POOL];
 static size_t n, v, m, pool_size, used; /* used: 64-bit words of the block in use */
-static uint64_t state, seed = 1;
+static uint64_t state, seed = 1, percent = 100;
 static uint64_t calls, words, by_call[CALLS], by_refusal[11], by_moves[5], by_load[11], by_kind[KINDS], by_answer[4];
 static uint64_t most_visits, large_calls, stopped_cuts, bytes;
 
@@ -109,46 +113,62 @@ static uint32_t hash(uint64_t animal) {
     return h;
 }
 
-/* Fills both tables with the same random words: some wholly random, some nearly good. */
+/* Fills a table with random words: some wholly random, some nearly good. */
 static void garbage(void) {
     uint64_t wild = below(3), bad = 1 + below(200), odd = 1 + below(20);
-    for (size_t i = 0; i < 4 * m; i++) ours.items[i] = wild == 0 ? any() : an_item_word(i);
+    for (size_t i = 0; i < 4 * m; i++) ours->items[i] = wild == 0 ? any() : an_item_word(i);
     for (size_t i = 0; i < v; i++) {
-        ours.counters[i] = one_in(4) ? UINT32_MAX - (uint32_t)below(4) : (uint32_t)any();
-        if (!one_in(odd)) ours.counters[i] &= ~UINT32_C(1);
+        ours->counters[i] = one_in(4) ? UINT32_MAX - (uint32_t)below(4) : (uint32_t)any();
+        if (!one_in(odd)) ours->counters[i] &= ~UINT32_C(1);
     }
     for (size_t i = 0; i < 4 * n; i++)
-        ours.slots[i] = wild == 0 || one_in(bad) ? a_slot_word()
+        ours->slots[i] = wild == 0 || one_in(bad) ? a_slot_word()
                         : one_in(6)              ? 0
                                                  : (uint32_t)((1 + below(255)) << 16 | below(m));
     if (wild == 0) return;
     for (size_t i = 0; i < m; i++) /* most places also stand in a home slot, some in two */
         for (int twice = 0; twice < 2; twice++)
-            if (ours.items[4 * i] != 0 && (twice ? one_in(5) : !one_in(4))) {
-                uint32_t h = hash(ours.items[4 * i]), tag = h >> 24 ? h >> 24 : 1, b = h & (uint32_t)(n - 1);
+            if (ours->items[4 * i] != 0 && (twice ? one_in(5) : !one_in(4))) {
+                uint32_t h = hash(ours->items[4 * i]), tag = h >> 24 ? h >> 24 : 1, b = h & (uint32_t)(n - 1);
                 if (one_in(2)) b ^= ((tag * 1540483477u) & (uint32_t)(n - 1)) | 1u;
-                ours.slots[4 * b + below(4)] = tag << 16 | (uint32_t)i;
+                ours->slots[4 * b + below(4)] = tag << 16 | (uint32_t)i;
             }
 }
 
+/* Overwrites one word, of all tables alike. */
 static void poke(void) {
+    size_t i;
     switch (below(3)) {
-    case 0: { size_t i = below(4 * n); ours.slots[i] = theirs.slots[i] = a_slot_word(); break; }
-    case 1: { size_t i = below(v); ours.counters[i] = theirs.counters[i] = one_in(4) ? (uint32_t)any() : (uint32_t)any() << 1; break; }
-    default: { size_t i = below(4 * m); ours.items[i] = theirs.items[i] = an_item_word(i); }
+    case 0:
+        i = below(4 * n);
+        ours->slots[i] = a_slot_word();
+        for (int k = 1; k < TABLES; k++) tables[k].slots[i] = ours->slots[i];
+        break;
+    case 1:
+        i = below(v);
+        ours->counters[i] = one_in(4) ? (uint32_t)any() : (uint32_t)any() << 1;
+        for (int k = 1; k < TABLES; k++) tables[k].counters[i] = ours->counters[i];
+        break;
+    default:
+        i = below(4 * m);
+        ours->items[i] = an_item_word(i);
+        for (int k = 1; k < TABLES; k++) tables[k].items[i] = ours->items[i];
     }
 }
 
-static Reply make(const Call *c, Table *t, int anchor) {
+static Reply make(const Call *c, int who) {
+    Table *t = &tables[who];
+    Second second = {t->slots, c->sl, t->counters, c->cl, t->items, c->il};
     Reply r;
     memset(&r, 0, sizeof r);
 #define TABLE t->slots, c->sl, t->counters, c->cl, t->items, c->il
-#define EITHER(name, ...) (anchor ? anchor_##name(__VA_ARGS__) : boughladder_##name(__VA_ARGS__))
+#define EITHER(name, ...) (who == OURS ? boughladder_##name(__VA_ARGS__) : anchor_##name(__VA_ARGS__))
+#define ANY(name, ...) (who == SECOND ? second_##name(&second, __VA_ARGS__) : EITHER(name, TABLE, __VA_ARGS__))
     switch (c->call) {
     case FRESH: r.refusal = EITHER(fresh, TABLE); break;
     case READ: case SERVE: {
-        BoughladderReading x = c->call == READ ? EITHER(read, TABLE, c->animal, c->limit, c->now)
-                                               : EITHER(serve, TABLE, c->animal, c->limit, c->now);
+        BoughladderReading x = c->call == READ ? ANY(read, c->animal, c->limit, c->now)
+                                               : ANY(serve, c->animal, c->limit, c->now);
         r.refusal = x.refusal; r.kind = x.kind; r.permission = x.permission; r.age = x.age;
         break;
     }
@@ -158,12 +178,12 @@ static Reply make(const Call *c, Table *t, int anchor) {
         break;
     }
     case SET: case SETCUT: {
-        BoughladderSetting x = c->call == SET ? EITHER(set, TABLE, c->animal, c->permission, c->now, c->standing)
+        BoughladderSetting x = c->call == SET ? ANY(set, c->animal, c->permission, c->now, c->standing)
                                               : EITHER(set_cut, TABLE, c->animal, c->permission, c->now, c->standing, c->k);
         r.refusal = x.refusal; r.visits = x.visits; r.moves = x.moves;
         break;
     }
-    case DELETE: r.refusal = EITHER(delete, TABLE, c->animal); break;
+    case DELETE: r.refusal = ANY(delete, c->animal); break;
     case DELETECUT: r.refusal = EITHER(delete_cut, TABLE, c->animal, c->k); break;
     case EVICT: case EVICTCUT: {
         BoughladderEvicting x = c->call == EVICT ? EITHER(evict, TABLE, c->hand) : EITHER(evict_cut, TABLE, c->hand, c->k);
@@ -185,27 +205,29 @@ static void tell(const char *who, const Reply *r) {
            r->count);
 }
 
-static void differs(const Call *c, const Reply *a, const Reply *b, int kind) {
+static void differs(const Call *c, const Reply *a, const Reply *b, int who, int kind) {
+    const Table *other = &tables[who];
+    const char *name = table_names[who];
     printf("DIFFERENCE at call %" PRIu64 ", seed %" PRIu64 ", memory %s, N %zu V %zu M %zu\n", calls, seed, kind_names[kind], n, v, m);
     printf("  %s lengths %zu %zu %zu animal %" PRIu64 " permission %" PRIu32 " limit %" PRIu64 " now %" PRIu64
            " standing %" PRIu32 " hand %zu k %" PRIu64 " buffer %zu\n",
            call_names[c->call], c->sl, c->cl, c->il, c->animal, c->permission, c->limit, c->now, c->standing, c->hand, c->k,
            c->buffer_length);
     tell("ours", a);
-    tell("anchor", b);
+    tell(name, b);
     int told = 0;
     for (size_t i = 0; i < 4 * n; i++)
-        if (ours.slots[i] != theirs.slots[i] && told++ < 10)
-            printf("  slot %zu: ours %" PRIu32 " anchor %" PRIu32 "\n", i, ours.slots[i], theirs.slots[i]);
+        if (ours->slots[i] != other->slots[i] && told++ < 10)
+            printf("  slot %zu: ours %" PRIu32 " %s %" PRIu32 "\n", i, ours->slots[i], name, other->slots[i]);
     for (size_t i = 0; i < v; i++)
-        if (ours.counters[i] != theirs.counters[i] && told++ < 10)
-            printf("  counter %zu: ours %" PRIu32 " anchor %" PRIu32 "\n", i, ours.counters[i], theirs.counters[i]);
+        if (ours->counters[i] != other->counters[i] && told++ < 10)
+            printf("  counter %zu: ours %" PRIu32 " %s %" PRIu32 "\n", i, ours->counters[i], name, other->counters[i]);
     for (size_t i = 0; i < 4 * m; i++)
-        if (ours.items[i] != theirs.items[i] && told++ < 10)
-            printf("  item word %zu: ours %" PRIu64 " anchor %" PRIu64 "\n", i, ours.items[i], theirs.items[i]);
+        if (ours->items[i] != other->items[i] && told++ < 10)
+            printf("  item word %zu: ours %" PRIu64 " %s %" PRIu64 "\n", i, ours->items[i], name, other->items[i]);
     for (size_t i = 0; i < BUFFER; i++)
-        if (ours.buffer[i] != theirs.buffer[i] && told++ < 10)
-            printf("  buffer byte %zu: ours %u anchor %u\n", i, ours.buffer[i], theirs.buffer[i]);
+        if (ours->buffer[i] != other->buffer[i] && told++ < 10)
+            printf("  buffer byte %zu: ours %u %s %u\n", i, ours->buffer[i], name, other->buffer[i]);
     if (told == 0) printf("  the runs are equal; the reply or a word outside the runs differs\n");
     exit(1);
 }
@@ -236,7 +258,7 @@ static Call a_call(int kind, int growing, size_t hand) {
     c.now = one_in(100) ? UINT64_MAX - below(3) : one_in(100) ? below(3) : 20000 + below(14000);
     c.standing = one_in(10) ? (uint32_t)any() : 0;
     if (one_in(4)) { /* an animal that has a place, and often an age at the edge of the limit */
-        const uint64_t *item = ours.items + 4 * below(m);
+        const uint64_t *item = ours->items + 4 * below(m);
         if (item[0] != 0) c.animal = item[0];
         if (item[2] < UINT64_MAX - 10090 && one_in(2)) {
             c.limit = below(10081);
@@ -272,7 +294,7 @@ static Call a_call(int kind, int growing, size_t hand) {
 /* Returns how many places are live (counted, for the table of loads). */
 static size_t live_places(void) {
     size_t live = 0;
-    for (size_t i = 0; i < m; i++) live += theirs.items[4 * i] != 0;
+    for (size_t i = 0; i < m; i++) live += ours->items[4 * i] != 0;
     return live;
 }
 
@@ -290,12 +312,14 @@ static void episode(int large, int kind, uint64_t length) {
     size_t room = 4 * n < m ? 4 * n : m;
     pool_size = room + room / 3 + 3;
     for (size_t i = 0; i < pool_size; i++) pool[i] = any();
-    lay_out(&ours);
-    lay_out(&theirs);
-    for (size_t i = 0; i < used; i++) ours.block[i] = any();
+    for (int k = 0; k < TABLES; k++) lay_out(&tables[k]);
+    for (size_t i = 0; i < used; i++) ours->block[i] = any();
     if (kind == GARBAGE) garbage();
-    memcpy(theirs.block, ours.block, sizeof ours.block);
-    for (size_t i = 0; i < BUFFER; i++) ours.buffer[i] = theirs.buffer[i] = (uint8_t)any();
+    for (size_t i = 0; i < BUFFER; i++) ours->buffer[i] = (uint8_t)any();
+    for (int k = 1; k < TABLES; k++) {
+        memcpy(tables[k].block, ours->block, sizeof ours->block);
+        memcpy(tables[k].buffer, ours->buffer, BUFFER);
+    }
 
     size_t hand = 0, load = 0;
     int growing = 1;
@@ -310,39 +334,43 @@ static void episode(int large, int kind, uint64_t length) {
         if (i == 0 && kind != GARBAGE) { c.call = FRESH; c.sl = 4 * n; c.cl = v; c.il = 4 * m; }
         if (kind == CUT && one_in(3000)) c.call = FRESH; /* or the busy counters would stop everything */
         if (i % 16 == 0) load = live_places();
-        Reply a = make(&c, &ours, 0), b = make(&c, &theirs, 1);
+        Reply told = make(&c, OURS);
         calls++;
-        int same = memcmp(&a, &b, sizeof a) == 0 && memcmp(ours.block, theirs.block, 8 * used) == 0;
-        words += 4 * n + v + 4 * m;
-        if (c.call == LIST) {
-            same = same && memcmp(ours.buffer, theirs.buffer, BUFFER) == 0;
-            bytes += BUFFER;
+        for (int k = 1; k < TABLES; k++) {
+            Reply other = make(&c, k);
+            int same = memcmp(&told, &other, sizeof told) == 0 && memcmp(ours->block, tables[k].block, 8 * used) == 0;
+            words += 4 * n + v + 4 * m;
+            if (c.call == LIST) {
+                same = same && memcmp(ours->buffer, tables[k].buffer, BUFFER) == 0;
+                bytes += BUFFER;
+            }
+            if (!same) differs(&c, &told, &other, k, kind);
         }
-        if (!same) differs(&c, &a, &b, kind);
         by_call[c.call]++;
         by_kind[kind]++;
         large_calls += (uint64_t)large;
-        by_refusal[b.refusal]++;
+        by_refusal[told.refusal]++;
         by_load[10 * load / room > 10 ? 10 : 10 * load / room]++;
-        if ((c.call == READ || c.call == SERVE) && b.refusal == 0) by_answer[b.kind]++;
-        if ((c.call == SET || c.call == SETCUT) && b.refusal == 0 && b.visits > 0) {
-            by_moves[b.moves]++;
-            if (b.visits > most_visits) most_visits = b.visits;
+        if ((c.call == READ || c.call == SERVE) && told.refusal == 0) by_answer[told.kind]++;
+        if ((c.call == SET || c.call == SETCUT) && told.refusal == 0 && told.visits > 0) {
+            by_moves[told.moves]++;
+            if (told.visits > most_visits) most_visits = told.visits;
         }
-        if ((c.call == SETCUT || c.call == DELETECUT || c.call == EVICTCUT) && b.refusal == 0) stopped_cuts++;
-        if ((c.call == EVICT || c.call == EVICTCUT) && b.refusal == 0) hand = b.hand;
+        if ((c.call == SETCUT || c.call == DELETECUT || c.call == EVICTCUT) && told.refusal == 0) stopped_cuts++;
+        if ((c.call == EVICT || c.call == EVICTCUT) && told.refusal == 0) hand = told.hand;
     }
 }
 
 int main(int argc, char **argv) {
     if (argc > 1) seed = strtoull(argv[1], NULL, 10);
+    if (argc > 2) percent = strtoull(argv[2], NULL, 10);
     state = seed;
-    while (by_kind[CLEAN] + by_kind[CUT] + by_kind[POKED] < 3000000)
+    while (by_kind[CLEAN] + by_kind[CUT] + by_kind[POKED] < 30000 * percent)
         episode(0, (int)below(3), 1 + below(9000));
-    while (by_kind[GARBAGE] < 1000000) episode(0, GARBAGE, 1 + below(200));
-    for (int i = 0; i < 30; i++) episode(1, i < 12 ? CLEAN : i < 20 ? CUT : i < 26 ? POKED : GARBAGE, 20000);
+    while (by_kind[GARBAGE] < 10000 * percent) episode(0, GARBAGE, 1 + below(200));
+    for (int i = 0; i < 30; i++) episode(1, i < 12 ? CLEAN : i < 20 ? CUT : i < 26 ? POKED : GARBAGE, 200 * percent);
 
-    printf("differ: seed %" PRIu64 ", %" PRIu64 " calls (%" PRIu64 " of them on N 512 to 2048 with M 4096), no difference\n", seed, calls, large_calls);
+    printf("differ: seed %" PRIu64 ", %" PRIu64 " calls on three tables (%" PRIu64 " of them on N 512 to 2048 with M 4096), no difference\n", seed, calls, large_calls);
     printf("compared after every call: all fields of the reply, all words of the runs (%" PRIu64 " words), list buffers (%" PRIu64 " bytes)\n", words, bytes);
     printf("memory:");
     for (int i = 0; i < KINDS; i++) printf("  %s %" PRIu64, kind_names[i], by_kind[i]);

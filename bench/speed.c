@@ -1,11 +1,12 @@
 /*
- * speed.c: nanoseconds a call, ours and the anchor's, and their ratio.
- * Both tables hold the same herd in memory of their own and get the same calls. Each round times one portion of calls on
- * one and then on the other, the first of the two changing from round to round; the best round of each counts. The
- * answers of both are summed up and must be equal at the end, and so must all words. Use: speed [rounds].
+ * speed.c: nanoseconds a call of ours and of the two C tables, and the ratio of ours to the faster of the two.
+ * The tables hold the same herd in memory of their own and get the same calls. Each round times one portion of calls on
+ * each, another one first each time; the best round of each counts. The answers are summed up and must be equal at the end,
+ * and so must all words. The second C table has no evict and no list. Use: speed [rounds].
  */
 #include "anchor.h"
 #include "herd.h"
+#include "second.h"
 
 #include <inttypes.h>
 #include <stdio.h>
@@ -14,54 +15,66 @@
 
 #define BATCH 32
 
-static Table ours, theirs, before;
+enum { OURS, ANCHOR, SECOND, TABLES };
+static Table tables[TABLES], *const ours = &tables[OURS], before;
 static uint64_t absent[M];
 static int rounds = 150;
 
-/* The portions of work, once for each table: the calls are direct ones, as a user would write them. Each gives the time of
-   the calls that it is about. */
+/* How each table is passed to its calls. */
+#define boughladder_TABLE TABLE
+#define anchor_TABLE TABLE
+#define second_TABLE &second
+
+/* A portion of work gives the time of the calls that it is about; `from` is where its new animals begin. */
+typedef double Work(Table *t, size_t from);
+#define WORK(name)                            \
+    static double name(Table *t, size_t from) { \
+        const Second second = {TABLE};        \
+        (void)second, (void)from;
 #define ASKS(who, works, call)                                                                              \
-    static double who##_##works(Table *t) {                                                                 \
+    WORK(who##_##works)                                                                                     \
         double start = now_ns();                                                                            \
         for (size_t i = 0; i < READS; i++) {                                                                \
-            BoughladderReading r = who##_##call(TABLE, asked[i], LIMIT, NOW);                               \
+            BoughladderReading r = who##_##call(who##_TABLE, asked[i], LIMIT, NOW);                         \
             t->sum += r.kind + r.permission + r.age + r.refusal;                                            \
         }                                                                                                   \
         return (now_ns() - start) / READS;                                                                  \
     }
+/* Once for each table: the calls are direct ones, as a user would write them. */
 #define WORKS(who)                                                                                          \
     ASKS(who, reads, read)                                                                                  \
     ASKS(who, serves, serve)                                                                                \
-    static double who##_updates(Table *t) {                                                                 \
+    WORK(who##_updates)                                                                                     \
         double start = now_ns();                                                                            \
         for (size_t i = 0; i < herd; i++) {                                                                 \
-            BoughladderSetting s = who##_set(TABLE, held[i], (uint32_t)i, NOW - i % 1000, 0);               \
+            BoughladderSetting s = who##_set(who##_TABLE, held[i], (uint32_t)i, NOW - i % 1000, 0);         \
             t->sum += s.refusal + s.visits + s.moves;                                                       \
         }                                                                                                   \
         return (now_ns() - start) / (double)herd;                                                           \
     }                                                                                                       \
-    static double who##_new(Table *t, size_t from) {                                                        \
+    WORK(who##_new)                                                                                         \
         double start = now_ns();                                                                            \
         for (size_t i = from; i < from + BATCH; i++) {                                                      \
-            BoughladderSetting s = who##_set(TABLE, absent[i], (uint32_t)i, NOW, 0);                        \
+            BoughladderSetting s = who##_set(who##_TABLE, absent[i], (uint32_t)i, NOW, 0);                  \
             t->sum += s.refusal + s.visits + s.moves;                                                       \
         }                                                                                                   \
         return (now_ns() - start) / BATCH;                                                                  \
     }                                                                                                       \
-    static double who##_gone(Table *t, size_t from) {                                                       \
+    WORK(who##_gone)                                                                                        \
         double start = now_ns();                                                                            \
-        for (size_t i = from; i < from + BATCH; i++) t->sum += who##_delete(TABLE, absent[i]);              \
+        for (size_t i = from; i < from + BATCH; i++) t->sum += who##_delete(who##_TABLE, absent[i]);        \
         return (now_ns() - start) / BATCH;                                                                  \
     }                                                                                                       \
-    static double who##_pairs(Table *t, size_t from) {                                                      \
+    WORK(who##_pairs)                                                                                       \
         double start = now_ns();                                                                            \
         for (size_t i = from; i < from + BATCH; i++) {                                                      \
-            BoughladderSetting s = who##_set(TABLE, absent[i], (uint32_t)i, NOW, 0);                        \
-            t->sum += s.refusal + s.visits + s.moves + who##_delete(TABLE, absent[i]);                      \
+            BoughladderSetting s = who##_set(who##_TABLE, absent[i], (uint32_t)i, NOW, 0);                  \
+            t->sum += s.refusal + s.visits + s.moves + who##_delete(who##_TABLE, absent[i]);                \
         }                                                                                                   \
         return (now_ns() - start) / BATCH;                                                                  \
-    }                                                                                                       \
-    static double who##_evicts(Table *t) {                                                                  \
+    }
+#define MORE_WORKS(who)                                                                                     \
+    WORK(who##_evicts)                                                                                      \
         uint64_t victims[BATCH];                                                                            \
         double start = now_ns();                                                                            \
         for (size_t i = 0; i < BATCH; i++) {                                                                \
@@ -74,20 +87,34 @@ static int rounds = 150;
         for (size_t i = 0; i < BATCH; i++) t->sum += who##_set(TABLE, victims[i], 1, NOW, 0).refusal;       \
         return spent;                                                                                       \
     }                                                                                                       \
-    static double who##_lists(Table *t) {                                                                   \
+    WORK(who##_lists)                                                                                       \
         double start = now_ns();                                                                            \
         t->sum += who##_list(TABLE, t->buffer, sizeof t->buffer).count;                                     \
         return now_ns() - start;                                                                            \
     }
 WORKS(boughladder)
 WORKS(anchor)
+WORKS(second)
+MORE_WORKS(boughladder)
+MORE_WORKS(anchor)
 
-/* Fills both tables up to a load in percent with a herd of scattered numbers, and picks the animals that are asked for. */
+#define ALL(works) static Work *const works[TABLES] = {boughladder_##works, anchor_##works, second_##works};
+#define TWO(works) static Work *const works[TABLES] = {boughladder_##works, anchor_##works, NULL};
+ALL(reads)
+ALL(serves)
+ALL(updates)
+ALL(new)
+ALL(gone)
+ALL(pairs)
+TWO(evicts)
+TWO(lists)
+
+/* Fills all tables up to a load in percent with a herd of scattered numbers, and picks the animals that are asked for. */
 static void fill(unsigned load) {
     size_t fresh_ones = 0;
-    Table *t = &ours;
-    memset(&ours, 0, sizeof ours);
-    settle(&ours, load);
+    Table *t = ours;
+    memset(ours, 0, sizeof *ours);
+    settle(ours, load);
     /* The new animals find room at this load with the others of their batch. */
     while (fresh_ones < M) {
         uint64_t animal = any();
@@ -97,109 +124,106 @@ static void fill(unsigned load) {
         if (in_batch == BATCH - 1)
             for (size_t i = fresh_ones - BATCH; i < fresh_ones; i++) boughladder_delete(TABLE, absent[i]);
     }
-    memcpy(&theirs, &ours, sizeof ours);
+    for (int k = 1; k < TABLES; k++) tables[k] = *ours;
     choose_questions();
 }
 
-static double best_ours, best_theirs;
-static void begin(void) { best_ours = best_theirs = 1e30; }
+typedef struct {
+    double of[TABLES];
+} Best;
 
-static void keep(double a, double b) {
-    if (a < best_ours) best_ours = a;
-    if (b < best_theirs) best_theirs = b;
-}
+static const Best none = {{1e30, 1e30, 1e30}};
 
-static void row(const char *name, unsigned load) {
-    printf("| %s | %u %% | %.1f | %.1f | %.2f |\n", name, load, best_ours, best_theirs, best_ours / best_theirs);
-    if (ours.sum != theirs.sum || memcmp(ours.slots, theirs.slots, sizeof ours.slots) != 0 ||
-        memcmp(ours.counters, theirs.counters, sizeof ours.counters) != 0 ||
-        memcmp(ours.items, theirs.items, sizeof ours.items) != 0 ||
-        memcmp(ours.buffer, theirs.buffer, sizeof ours.buffer) != 0) {
-        printf("DIFFERENCE between the tables\n");
-        exit(1);
+/* One round: a portion on each table that has the call. */
+static void each(Work *const *works, int round, Best *best) {
+    size_t from = (size_t)round % (M / BATCH) * BATCH;
+    for (int k = 0; k < TABLES; k++) {
+        int who = (k + round) % TABLES;
+        if (works[who] == NULL) continue;
+        double spent = works[who](&tables[who], from);
+        if (spent < best->of[who]) best->of[who] = spent;
     }
 }
 
-/* Both, in turn first. */
-#define BOTH(a, b, mine, other) \
-    double a, b;                \
-    if (round % 2 == 0) { a = mine; b = other; } else { b = other; a = mine; }
+static void row(const char *name, unsigned load, Work *const *works, Best best) {
+    double faster = best.of[ANCHOR] < best.of[SECOND] ? best.of[ANCHOR] : best.of[SECOND];
+    printf("| %s | %u %% | %.1f | %.1f | ", name, load, best.of[OURS], best.of[ANCHOR]);
+    if (works[SECOND] != NULL) printf("%.1f", best.of[SECOND]);
+    printf(" | %.2f |\n", best.of[OURS] / faster);
+    for (int k = 1; k < TABLES; k++) {
+        Table *t = &tables[k];
+        if (works[k] == NULL) continue;
+        if (ours->sum != t->sum || memcmp(ours->slots, t->slots, sizeof t->slots) != 0 ||
+            memcmp(ours->counters, t->counters, sizeof t->counters) != 0 ||
+            memcmp(ours->items, t->items, sizeof t->items) != 0 ||
+            memcmp(ours->buffer, t->buffer, sizeof t->buffer) != 0) {
+            printf("DIFFERENCE between the tables\n");
+            exit(1);
+        }
+    }
+}
 
-#define EACH(name, load, mine, other)                  \
-    begin();                                           \
-    for (int round = 0; round < rounds; round++) {     \
-        size_t from = (size_t)round % (M / BATCH) * BATCH; \
-        (void)from;                                    \
-        BOTH(a, b, mine, other)                        \
-        keep(a, b);                                    \
-    }                                                  \
-    row(name, load);
+static void time_all(const char *name, unsigned load, Work *const *works) {
+    Best best = none;
+    for (int round = 0; round < rounds; round++) each(works, round, &best);
+    row(name, load, works, best);
+}
 
 int main(int argc, char **argv) {
     static const unsigned loads[] = {25, 50, 75, 90, 95};
     if (argc > 1) rounds = atoi(argv[1]);
     printf("N %d, V %d, M %d; best of %d rounds; nanoseconds a call\n\n", N, V, M, rounds);
-    printf("| Call | Load | Ours | Anchor | Ours / anchor |\n|---|---|---|---|---|\n");
+    printf("| Call | Load | Ours | Anchor | Second | Ours / the faster |\n|---|---|---|---|---|---|\n");
     for (int i = 0; i < 5; i++) {
         fill(loads[i]);
-        EACH("read, nine in ten held", loads[i], boughladder_reads(&ours), anchor_reads(&theirs))
+        time_all("read, nine in ten held", loads[i], reads);
     }
     for (int i = 0; i < 5; i++) {
         fill(loads[i]);
-        EACH("serve, nine in ten held", loads[i], boughladder_serves(&ours), anchor_serves(&theirs))
+        time_all("serve, nine in ten held", loads[i], serves);
     }
     for (int i = 0; i < 5; i++) { /* sets and deletes are timed apart */
-        double gone_ours = 1e30, gone_theirs = 1e30;
+        Best come = none, go = none;
         fill(loads[i]);
-        begin();
         for (int round = 0; round < 4 * rounds; round++) {
-            size_t from = (size_t)round % (M / BATCH) * BATCH;
-            BOTH(a, b, boughladder_new(&ours, from), anchor_new(&theirs, from))
-            keep(a, b);
-            BOTH(c, d, boughladder_gone(&ours, from), anchor_gone(&theirs, from))
-            if (c < gone_ours) gone_ours = c;
-            if (d < gone_theirs) gone_theirs = d;
+            each(new, round, &come);
+            each(gone, round, &go);
         }
-        row("set of an absent animal", loads[i]);
-        best_ours = gone_ours;
-        best_theirs = gone_theirs;
-        row("delete", loads[i]);
+        row("set of an absent animal", loads[i], new, come);
+        row("delete", loads[i], gone, go);
     }
     for (int i = 0; i < 5; i++) { /* with place 0 vacant the scan for a place is short: search and stores remain */
         fill(loads[i]);
-        Table *t = &ours;
-        boughladder_delete(TABLE, ours.items[0]);
-        t = &theirs;
-        anchor_delete(TABLE, theirs.items[0]);
-        EACH("set and delete, place 0 vacant", loads[i], boughladder_pairs(&ours, from), anchor_pairs(&theirs, from))
+        Table *t = ours;
+        boughladder_delete(TABLE, ours->items[0]);
+        for (int k = 1; k < TABLES; k++) tables[k] = *ours;
+        time_all("set and delete, place 0 vacant", loads[i], pairs);
     }
     fill(90);
-    EACH("update", 90, boughladder_updates(&ours), anchor_updates(&theirs))
+    time_all("update", 90, updates);
     fill(90);
-    begin();
+    Best best = none;
     for (int round = 0; round < 4 * rounds; round++) {
-        for (size_t p = 0; p < M; p++) ours.items[4 * p + 3] = theirs.items[4 * p + 3] = any() % 4 != 0; /* three in four recent */
-        BOTH(a, b, boughladder_evicts(&ours), anchor_evicts(&theirs))
-        keep(a, b);
+        for (size_t p = 0; p < M; p++) ours->items[4 * p + 3] = tables[ANCHOR].items[4 * p + 3] = any() % 4 != 0; /* three in four recent */
+        each(evicts, round, &best);
     }
-    row("evict, three in four recent", 90);
+    row("evict, three in four recent", 90, evicts, best);
     fill(90); /* the lower half of the places vacant, the hand behind them, none recent */
     for (size_t p = 0; p < M / 2; p++) {
-        Table *t = &ours;
-        boughladder_delete(TABLE, ours.items[4 * p]);
+        Table *t = ours;
+        boughladder_delete(TABLE, ours->items[4 * p]);
     }
-    for (size_t p = 0; p < M; p++) ours.items[4 * p + 3] = 0;
-    ours.hand = M / 2;
-    ours.sum = 0;
-    before = ours;
-    begin();
+    for (size_t p = 0; p < M; p++) ours->items[4 * p + 3] = 0;
+    ours->hand = M / 2;
+    ours->sum = 0;
+    before = *ours;
+    best = none;
     for (int round = 0; round < rounds; round++) {
-        ours = theirs = before;
-        BOTH(a, b, boughladder_evicts(&ours), anchor_evicts(&theirs))
-        keep(a, b);
+        *ours = tables[ANCHOR] = before;
+        each(evicts, round, &best);
     }
-    row("evict, places 0 to 2,047 vacant, hand behind them", 45);
+    row("evict, places 0 to 2,047 vacant, hand behind them", 45, evicts, best);
     fill(90);
-    EACH("list, whole", 90, boughladder_lists(&ours), anchor_lists(&theirs))
+    time_all("list, whole", 90, lists);
     return 0;
 }

@@ -1,8 +1,8 @@
 // Delete, whole and cut: what it is to do is known before any store, and then done.
 ghost use mathlib.Core.Path.{_≡_};
-ghost use mathlib.Core.Bool.{false};
+ghost use mathlib.Core.Bool.{false, true};
 ghost use Rattle.model.specs.Memory.{mem};
-ghost use Rattle.model.specs.Shape.{four};
+ghost use Rattle.model.specs.Shape.{four, right-lengths};
 ghost use Rattle.model.specs.Calling.{delete};
 ghost use Rattle.model.specs.Lent.{lent-call};
 ghost use Rattle.model.specs.Said.{said-deleting};
@@ -99,6 +99,40 @@ pub fn delete_cut(
     remove_at(slots, counters, items, removal, k)
 }
 
+// looking::look_up once more: it has one caller, so that the compiler puts it into delete.
+fn look_whole(slots: &[u32], counters: &[u32], items: &[u64], animal: u64) -> Looked
+    requires { ⌜ right-lengths four (mem (now slots) (now counters) (now items)) ≡ true ⌝ }
+    ensures { λ r. ⌜ LooksUp four (mem (now (slots .entry)) (now (counters .entry)) (now (items .entry))) animal r ⌝ }
+{
+    let homes = looking::homes_in(slots, counters, items, animal);
+    if looking::is_odd(counters, homes.counter) {
+        return Looked {
+            look: Look::Refused(8),
+            homes,
+        };
+    }
+    let e = home_words::home_words_of(slots, homes.first, homes.second);
+    let m = (items.len() / 4) as u32;
+    if home_words::any_damaged(e, m) {
+        return Looked {
+            look: Look::Refused(4),
+            homes,
+        };
+    }
+    let sum = home_words::sum_with_tag(e, homes.tag);
+    let w = home_words::hit_word(items, e, homes.tag, animal, sum);
+    if w == 0 {
+        return Looked {
+            look: Look::Absent,
+            homes,
+        };
+    }
+    Looked {
+        look: Look::At(w),
+        homes,
+    }
+}
+
 // Delete. Beside its cut form and not by way of it: a function that several call is not inlined.
 pub fn delete(slots: &mut [u32], counters: &mut [u32], items: &mut [u64], animal: u64) -> Deleting
     ensures { λ r. ⌜ WholeAs four (mem (now (slots .entry)) (now (counters .entry)) (now (items .entry))) (delete animal)
@@ -108,7 +142,7 @@ pub fn delete(slots: &mut [u32], counters: &mut [u32], items: &mut [u64], animal
     if no != 0 {
         return Deleting::Refused(no);
     }
-    let looked = looking::look_up(slots, counters, items, animal);
+    let looked = look_whole(slots, counters, items, animal);
     let removal = removal_of(slots, counters, items, animal, looked);
     remove_at(slots, counters, items, removal, 18446744073709551615)
 }

@@ -42,8 +42,12 @@ low-of-low {n} s x =
 pub spread-fits : {n : ℕ} → Size n → (x : ℕ) → x % n < 4294967295
 spread-fits {n} s x = let p : 0 < n = omega (arith, size-pos s) in omega (arith, mod-lt x p, size-most s)
 
+-- the lesser of an animal's buckets is a bucket
+pub lesser-in : {n : ℕ} → Size n → (h f s : ℕ) {k : ℕ} → f ≡ h % n → k ≡ min f s → k < n
+lesser-in {n} z h f s ef ek = let p : 0 < n = omega (arith, size-pos z) in omega (arith, mod-lt h p, ef, ek)
+
 -- the four numbers of an animal, one from the other
-pub by-homes : {n v x h t f s k : ℕ} → h ≡ hash x → (t ≡ tag-from h) × (t < 256) → f ≡ h % n → s ≡ other-bucket n t f → k ≡ min f s
-    → HomesAre n v x (record { tag = t; first = f; second = s; counter = k % v })
-by-homes eh et ef es ek =
+pub by-homes : {n v x h t f s k c : ℕ} → h ≡ hash x → (t ≡ tag-from h) × (t < 256) → f ≡ h % n → s ≡ other-bucket n t f → k ≡ min f s → c ≡ k % v
+    → HomesAre n v x (record { tag = t; first = f; second = s; counter = c })
+by-homes eh et ef es ek ec =
     record { tag-is = cc; first-is = cc; second-is = cc; counter-is = cc }

@@ -96,6 +96,17 @@ pub fn counter_at(b: u32, tag: u32, n: u32, v: u32) -> u32
     smaller(b, other_of(b, tag, n)) % v
 }
 
+// The counter of an entry whose lesser bucket is b. With as many counters as buckets it is b itself, and a division is saved.
+fn counter_of(b: u32, n: u32, v: u32) -> u32
+    requires { ⌜ (b < n) × (0 < v) ⌝ }
+    ensures { λ r. ⌜ r ≡ b % v ⌝ }
+{
+    if n <= v {
+        return b;
+    }
+    b % v
+}
+
 // An animal's tag, first bucket, other bucket and counter.
 pub struct Homes {
     pub tag: u32,
@@ -112,7 +123,7 @@ pub fn homes_of(animal: u64, n: u32, v: u32) -> Homes
     let tag = tag_of(h);
     let first = low_part(h, n);
     let second = other_of(first, tag, n);
-    let counter = smaller(first, second) % v;
+    let counter = counter_of(smaller(first, second), n, v);
     Homes {
         tag,
         first,

@@ -1,5 +1,5 @@
 -- Laws on the eight words. Assumes nothing.
-use Prim.Native.Nat.{ℕ, _+_, _*_, _<_, _≤_, _%_, _/_, suc}
+use Prim.Native.Nat.{ℕ, _+_, _*_, _<_, _≤_, _-_, _%_, _/_, suc}
 use native.Mathlib.Omega.{arith}
 use native.Mathlib.Decide.{ℕ-discrete}
 use mathlib.Core.Path.{_≡_, refl, sym, ap, _∙_}
@@ -16,7 +16,7 @@ use Rattle.model.proofs.ListLaws.{bool, true-false}
 use Rattle.home_words.specs.HomeWords.{or-else, found-word, leads, tag-sum, home-words}
 
 -- any of a list passes: the first, or any of the rest
-any-cons : (f : ℕ → Bool) (w : ℕ) (ws : List ℕ) → any f (w ∷ ws) ≡ (f w || any f ws)
+pub any-cons : (f : ℕ → Bool) (w : ℕ) (ws : List ℕ) → any f (w ∷ ws) ≡ (f w || any f ws)
 unfolding first
 any-cons f w ws = bool (λ b. there (choose b (some w) (first f ws)) ≡ (b || any f ws)) (f w) (λ e. refl) λ e. refl
 
@@ -28,15 +28,24 @@ or-no : (b : Bool) → (b || false) ≡ b
 or-no true = refl
 or-no false = refl
 
-any-eight : (f : ℕ → Bool) (a b c d e g h i : ℕ)
-    → (f a || (f b || (f c || (f d || (f e || (f g || (f h || f i))))))) ≡ any f (a ∷ b ∷ c ∷ d ∷ e ∷ g ∷ h ∷ i ∷ [])
-any-eight f a b c d e g h i = simp (any-cons, any-nil, or-no)
+or-in-turn : (a b c : Bool) → ((a || b) || c) ≡ (a || (b || c))
+or-in-turn true b c = refl
+or-in-turn false b c = refl
 
-pub by-eight : (M a b c d e g h i : ℕ) {p₀ p₁ p₂ p₃ p₄ p₅ p₆ p₇ : Bool}
-    → p₄ ≡ damaged M e → p₅ ≡ damaged M g → p₆ ≡ damaged M h → p₇ ≡ damaged M i
-    → p₀ ≡ damaged M a → p₁ ≡ damaged M b → p₂ ≡ damaged M c → p₃ ≡ damaged M d
-    → (p₀ || (p₁ || (p₂ || (p₃ || (p₄ || (p₅ || (p₆ || p₇))))))) ≡ any (damaged M) (a ∷ b ∷ c ∷ d ∷ e ∷ g ∷ h ∷ i ∷ [])
-by-eight M a b c d e g h i q₄ q₅ q₆ q₇ q₀ q₁ q₂ q₃ = rw (q₀, q₁, q₂, q₃, q₄, q₅, q₆, q₇) (any-eight (damaged M) a b c d e g h i)
+any-eight : (f : ℕ → Bool) (a b c d e g h i : ℕ)
+    → ((((f a || f b) || f c) || f d) || (((f e || f g) || f h) || f i)) ≡ any f (a ∷ b ∷ c ∷ d ∷ e ∷ g ∷ h ∷ i ∷ [])
+any-eight f a b c d e g h i = simp (any-cons, any-nil, or-no, or-in-turn)
+
+-- the last of m places
+pub last-is : (m : ℕ) → (1 ≤ m) × (m ≤ 65536) → suc ((m - 1) % 65536) ≡ m
+last-is m h = omega arith
+
+pub by-eight : (M a b c d e g h i : ℕ) {l : ℕ} → suc l ≡ M → {p₀ p₁ p₂ p₃ p₄ p₅ p₆ p₇ : Bool}
+    → p₀ ≡ damaged (suc l) a → p₁ ≡ damaged (suc l) b → p₂ ≡ damaged (suc l) c → p₃ ≡ damaged (suc l) d
+    → p₄ ≡ damaged (suc l) e → p₅ ≡ damaged (suc l) g → p₆ ≡ damaged (suc l) h → p₇ ≡ damaged (suc l) i
+    → ((((p₀ || p₁) || p₂) || p₃) || (((p₄ || p₅) || p₆) || p₇)) ≡ any (damaged M) (a ∷ b ∷ c ∷ d ∷ e ∷ g ∷ h ∷ i ∷ [])
+by-eight M a b c d e g h i {l} k q₀ q₁ q₂ q₃ q₄ q₅ q₆ q₇ =
+    rw (q₀, q₁, q₂, q₃, q₄, q₅, q₆, q₇) (any-eight (damaged (suc l)) a b c d e g h i) ∙ ap (λ n. any (damaged n) (a ∷ b ∷ c ∷ d ∷ e ∷ g ∷ h ∷ i ∷ [])) k
 
 pub one-with : (t w : ℕ) → tag w ≡ t → w ≡ tag-sum t (w ∷ [])
 unfolding tag-sum
@@ -46,7 +55,7 @@ pub one-without : (t w : ℕ) → tag w ≢ t → 0 ≡ tag-sum t (w ∷ [])
 unfolding tag-sum
 one-without t w e = rw (ne-eqb (tag w) t e)
 
-lead-other : (l : List ℕ) (t x w : ℕ) → tag w ≢ t → leads l t x w ≡ false
+pub lead-other : (l : List ℕ) (t x w : ℕ) → tag w ≢ t → leads l t x w ≡ false
 unfolding leads
 lead-other l t x w ne = rw (ne-eqb (tag w) t ne)
 
@@ -65,7 +74,7 @@ alone-hit l t x w e e′ = rw (eq-eqb (tag w) t e, eq-eqb (animal l (place w)) x
 
 module _ (t : ℕ) (pos : 1 ≤ t) where
   -- a sum below one tag is no word at all
-  sum-small : (ws : List ℕ) → tag-sum t ws < 65536 → tag-sum t ws ≡ 0
+  pub sum-small : (ws : List ℕ) → tag-sum t ws < 65536 → tag-sum t ws ≡ 0
   unfolding tag-sum tag
   sum-small [] h = refl
   sum-small (w ∷ ws) h =
@@ -126,16 +135,16 @@ module _ (l : List ℕ) (t x : ℕ) {w : ℕ} (ws : List ℕ) (known : (1 ≤ t)
   pub by-no-tag : w ≡ 0 → 0 ≡ found-word (first (leads l t x) ws)
   by-no-tag z = sym (ap found-word (hit-none t (known .0) l x ws (sym (known .1) ∙ z)))
 
-  module _ {v : ℕ} (e : w / 65536 ≡ t) (number : v ≡ getD l (4 * (w % 65536)) 0) where
+  module _ (e : w / 65536 ≡ t) where
     one-word : first (leads l t x) ws ≡ first (leads l t x) (w ∷ [])
     unfolding tag
     one-word = rw (known .1) (hit-one t (known .0) l x ws (rw (known .1) at e))
 
-    pub by-number : v ≡ x → w ≡ found-word (first (leads l t x) ws)
-    by-number q = alone-by-number l t x w e number q ∙ sym (ap found-word one-word)
+    pub by-number : getD l (4 * (w % 65536)) 0 ≡ x → w ≡ found-word (first (leads l t x) ws)
+    by-number q = alone-by-number l t x w e refl q ∙ sym (ap found-word one-word)
 
-    pub by-stranger : v ≢ x → 0 ≡ found-word (first (leads l t x) ws)
-    by-stranger q = alone-by-stranger l t x w e number q ∙ sym (ap found-word one-word)
+    pub by-stranger : getD l (4 * (w % 65536)) 0 ≢ x → 0 ≡ found-word (first (leads l t x) ws)
+    by-stranger q = alone-by-stranger l t x w e refl q ∙ sym (ap found-word one-word)
 
 -- slot by slot
 pub by-slots : (l : List ℕ) (t x : ℕ) → 1 ≤ t → (a b c d e g h i : ℕ) {a₇ b₆ a₆ b₅ a₅ b₄ a₄ b₃ a₃ b₂ a₂ b₁ a₁ b₀ r : ℕ}

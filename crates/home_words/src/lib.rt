@@ -1,7 +1,8 @@
 // The words of an animal's home slots: damage, the words with its tag, the hit.
 ghost use mathlib.Core.Path.{_≡_};
+ghost use mathlib.Core.Bool.{false};
 ghost use mathlib.Core.List.{[], _∷_};
-ghost use Prim.Native.Nat.{_+_, _*_, _<_, _≤_};
+ghost use Prim.Native.Nat.{_+_, _*_, _/_, _<_, _≤_, suc};
 ghost use lib.ListN.{length};
 ghost use Rattle.model.specs.Choice.{any, first};
 ghost use Rattle.model.specs.Memory.{damaged};
@@ -46,15 +47,22 @@ pub fn home_words_of(slots: &[u32], first: u32, second: u32) -> Eight
     }
 }
 
-// Refusal 4 looks at all eight words.
+// runs::is_damaged by the last place instead of the number of places: the vector code then has no test to turn round.
+fn is_bad(w: u32, last: u32) -> bool
+    ensures { λ r. ⌜ r ≡ damaged (suc last) w ⌝ }
+{
+    (w != 0) & (((w / 65536 == 0) | (255 < w / 65536)) | (last < w % 65536))
+}
+
+// Refusal 4 looks at all eight words. The remainder changes nothing: it tells the compiler that the last place has 16 bits.
 pub fn any_damaged(e: Eight, m: u32) -> bool
+    requires { ⌜ (1 ≤ m) × (m ≤ 65536) ⌝ }
     ensures { λ r. ⌜ r ≡ any (damaged m) (eight-words e) ⌝ }
 {
-    let low = runs::is_damaged(e.w4, m)
-        | (runs::is_damaged(e.w5, m) | (runs::is_damaged(e.w6, m) | runs::is_damaged(e.w7, m)));
-    runs::is_damaged(e.w0, m)
-        | (runs::is_damaged(e.w1, m)
-            | (runs::is_damaged(e.w2, m) | (runs::is_damaged(e.w3, m) | low)))
+    let last = (m - 1) % 65536;
+    let near = is_bad(e.w0, last) | is_bad(e.w1, last) | is_bad(e.w2, last) | is_bad(e.w3, last);
+    let far = is_bad(e.w4, last) | is_bad(e.w5, last) | is_bad(e.w6, last) | is_bad(e.w7, last);
+    near | far
 }
 
 // The word if it has the tag, else 0.
@@ -114,20 +122,29 @@ pub fn hit_by_slots(items: &[u64], e: Eight, tag: u32, animal: u64) -> u32
     or_else(leading_word(items, e.w0, tag, animal), a1)
 }
 
+// hit_by_slots behind a call of its own: what it takes is laid out in memory only where it is called.
+fn hit_among(items: &[u64], e: Eight, tag: u32, animal: u64) -> u32
+    requires { ⌜ 1 ≤ tag ⌝ }
+    ensures { λ r. ⌜ r ≡ found-word (first (leads (now (items .entry)) tag animal) (eight-words e)) ⌝ }
+{
+    hit_by_slots(items, e, tag, animal)
+}
+
 // The word of the hit, or 0: no word of a hit is 0, because no tag is. The sum says whether one word has the tag.
 // It is made by the caller: so this stays small, and the compiler puts it into each caller.
 pub fn hit_word(items: &[u64], e: Eight, tag: u32, animal: u64, sum: u32) -> u32
     requires { ⌜ (1 ≤ tag) × (sum ≡ tag-sum tag (eight-words e)) ⌝ }
+    requires { ⌜ any (damaged (length (now items) / 4)) (eight-words e) ≡ false ⌝ }
     ensures { λ r. ⌜ r ≡ found-word (first (leads (now (items .entry)) tag animal) (eight-words e)) ⌝ }
 {
     if sum == 0 {
         return 0;
     }
     if sum / 65536 == tag {
-        if runs::get64(items, 4 * ((sum % 65536) as usize)) == animal {
+        if items[4 * ((sum % 65536) as usize)] == animal {
             return sum;
         }
         return 0;
     }
-    hit_by_slots(items, e, tag, animal)
+    hit_among(items, e, tag, animal)
 }

@@ -2,7 +2,6 @@
 use Prim.Native.Nat.{ℕ, _+_, _*_, _<_, suc, _≤_}
 use native.Mathlib.Omega.{arith}
 use mathlib.Core.Path.{_≡_, refl, sym, ap, _∙_, ap₂}
-use mathlib.Core.Logic.{_≢_}
 use mathlib.Core.Bool.{Bool}
 use mathlib.Core.Option.{Option, none, some}
 use mathlib.Core.List.{List, [], _∷_, _++_, List·Memᴰ as In, List·Memᴰ·head as head, List·Memᴰ·tail as tail}
@@ -79,16 +78,16 @@ module _ (T : List ℕ) (w : ℕ) where
         below-both (range (near * 4) 4) (range (far * 4) 4) (λ i q. omega (arith, in-range (near * 4) 4 q))
         λ i q. omega (arith, in-range (far * 4) 4 q)
 
-    pub slot-nowhere : r ≡ L → none ≡ first has both
-    slot-nowhere z = go (first-is has both) (sym z ∙ slot-is)
+    pub slot-nowhere : L ≤ r → none ≡ first has both
+    slot-nowhere h = go (first-is has both) slot-is
       where
-        go : {o : Option ℕ} → First has both o → L ≡ slot-or L o → none ≡ o
+        go : {o : Option ℕ} → First has both o → r ≡ slot-or L o → none ≡ o
         go (missing h) e = refl
         go (found {i = i} q t) e = absurd (omega (arith, below i q))
 
-    pub slot-somewhere : r ≢ L → some r ≡ first has both
-    slot-somewhere n = go (first-is has both) slot-is
+    pub slot-somewhere : r < L → some r ≡ first has both
+    slot-somewhere h = go (first-is has both) slot-is
       where
         go : {o : Option ℕ} → First has both o → r ≡ slot-or L o → some r ≡ o
-        go (missing h) e = absurd (n e)
+        go (missing n) e = absurd (omega arith)
         go (found {i = i} q t) e = ap some e

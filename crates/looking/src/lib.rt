@@ -128,7 +128,7 @@ pub fn slot_of(slots: &[u32], near: u32, far: u32, w: u32) -> Slot
     let nowhere = slots.len();
     let there = slot_among(slots, far, w, nowhere);
     let slot = slot_among(slots, near, w, there);
-    if slot == nowhere {
+    if nowhere <= slot {
         return Slot::Nowhere;
     }
     Slot::At(slot)

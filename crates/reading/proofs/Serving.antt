@@ -1,12 +1,11 @@
 -- Serve, a law a way out, in the code's own words. Assumes nothing.
-use Prim.Native.Nat.{ℕ, _+_, _*_, _≤_, _%_, _/_}
+use Prim.Native.Nat.{ℕ, _+_, _*_, _%_, _/_}
 use mathlib.Core.Path.{_≡_, refl, sym, ap, _∙_}
 use mathlib.Core.Logic.{_≢_}
 use mathlib.Core.Bool.{Bool, true, false, not}
 use mathlib.Core.Option.{Option, some}
 use mathlib.Core.List.{List, [], _∷_}
 use lib.ListN.{length, getD, set}
-use lib.Seq.{set-out}
 use lib.Dec.{eqb}
 use borrow.Author.Tests.{not-true, not-false}
 use Rattle.model.specs.Choice.{any, choose, first}
@@ -81,9 +80,6 @@ module _ (W : Ways) (m : Mem) (x limit now : ℕ) where
 -- the recent word
 pub marked-not : (l : List ℕ) (i : ℕ) (f : Bool) → not f ≡ true → l ≡ choose f (set l i 1) l
 marked-not l i f t = sym (ap (λ b. choose b (set l i 1) l) (not-true f t))
-
-pub marked-outside : (l : List ℕ) (i : ℕ) (f : Bool) → not f ≡ false → length l ≤ i → l ≡ choose f (set l i 1) l
-marked-outside l i f t h = sym (ap (λ b. choose b (set l i 1) l) (not-false f t) ∙ set-out l i 1 h)
 
 pub marked-in : (l : List ℕ) (i : ℕ) (f : Bool) → not f ≡ false → set l i 1 ≡ choose f (set l i 1) l
 marked-in l i f t = sym (ap (λ b. choose b (set l i 1) l) (not-false f t))

@@ -1,7 +1,7 @@
 // Read, serve and find.
 ghost use mathlib.Core.Path.{_≡_};
-ghost use Prim.Native.Nat.{_+_, _*_};
-ghost use lib.ListN.{set};
+ghost use Prim.Native.Nat.{_+_, _*_, _≤_};
+ghost use lib.ListN.{length, set};
 ghost use Rattle.model.specs.Choice.{choose};
 ghost use Rattle.model.specs.Memory.{mem, permission, stamp};
 ghost use Rattle.model.specs.Shape.{four};
@@ -14,17 +14,15 @@ ghost use Rattle.model.specs.Promised.{WholeAs};
 use model::Finding;
 use model::Reading;
 
-// The place of the hit is judged by its permission and stamp.
+// The place of the hit is judged by its permission and stamp. The test in get64 is for speed: without it the compiler reads the
+// permission behind a branch on the age, which can't be foretold.
 fn judged_at(items: &[u64], place: u32, limit: u64, minute: u64) -> Reading
+    requires { ⌜ 4 * place + 4 ≤ length (now items) ⌝ }
     ensures { λ r. ⌜ said-reading r ≡ verdict limit minute (permission (now (items .entry)) place) (stamp (now (items .entry)) place) ⌝ }
 {
     let at = 4 * (place as usize);
-    ageing::judged(
-        runs::get64(items, at + 1),
-        runs::get64(items, at + 2),
-        limit,
-        minute,
-    )
+    let permission = runs::get64(items, at + 1);
+    ageing::judged(permission, items[at + 2], limit, minute)
 }
 
 // A read where no early refusal is due.
@@ -83,16 +81,13 @@ pub fn read(
 
 // Serve stores 1 in the recent word, and only where the answer is fresh.
 fn mark_recent(items: &mut [u64], place: u32, fresh: bool)
+    requires { ⌜ 4 * place + 4 ≤ length (now items) ⌝ }
     ensures { λ _. ⌜ now (items .exit) ≡ choose fresh (set (now (items .entry)) (4 * place + 3) 1) (now (items .entry)) ⌝ }
 {
-    let at = 4 * (place as usize) + 3;
     if !fresh {
         return;
     }
-    if items.len() <= at {
-        return;
-    }
-    items[at] = 1;
+    items[4 * (place as usize) + 3] = 1;
 }
 
 // A serve where no early refusal is due.

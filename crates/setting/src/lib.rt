@@ -1,16 +1,19 @@
 // Set, whole and cut: an update of a held animal, or the moves of the search and a new entry.
 ghost use mathlib.Core.Path.{_≡_};
+ghost use mathlib.Core.Bool.{true};
 ghost use mathlib.Core.List.{List};
 ghost use Prim.Native.Nat.{ℕ, _^_};
 ghost use Rattle.model.specs.Memory.{mem, place};
-ghost use Rattle.model.specs.Shape.{Ways, four};
+ghost use Rattle.model.specs.Shape.{Ways, four, right-lengths};
 ghost use Rattle.model.specs.Calling.{set-animal};
 ghost use Rattle.model.specs.Calls.{updated};
 ghost use Rattle.model.specs.Said.{said-setting};
 ghost use Rattle.model.specs.Promised.{CutAs, Does, WholeAs};
+ghost use Rattle.looking.specs.Look.{LooksUp};
 ghost use Rattle.setting.specs.Entering.{Enterable, Homed, RoomIs, entering, entering-new};
 use hashing::Homes;
 use looking::Look;
+use looking::Looked;
 use model::Grant;
 use model::Setting;
 use paths::Ending;
@@ -188,6 +191,57 @@ pub fn set_cut(
     }
 }
 
+// looking::look_up once more: it has one caller, so that the compiler puts it into set.
+fn look_whole(slots: &[u32], counters: &[u32], items: &[u64], animal: u64) -> Looked
+    requires { ⌜ right-lengths four (mem (now slots) (now counters) (now items)) ≡ true ⌝ }
+    ensures { λ r. ⌜ LooksUp four (mem (now (slots .entry)) (now (counters .entry)) (now (items .entry))) animal r ⌝ }
+{
+    let homes = looking::homes_in(slots, counters, items, animal);
+    if looking::is_odd(counters, homes.counter) {
+        return Looked {
+            look: Look::Refused(8),
+            homes,
+        };
+    }
+    let e = home_words::home_words_of(slots, homes.first, homes.second);
+    let m = (items.len() / 4) as u32;
+    if home_words::any_damaged(e, m) {
+        return Looked {
+            look: Look::Refused(4),
+            homes,
+        };
+    }
+    let sum = home_words::sum_with_tag(e, homes.tag);
+    let w = home_words::hit_word(items, e, homes.tag, animal, sum);
+    if w == 0 {
+        return Looked {
+            look: Look::Absent,
+            homes,
+        };
+    }
+    Looked {
+        look: Look::At(w),
+        homes,
+    }
+}
+
+// enter_new behind a call of its own: what it takes is laid out in memory only where it is called, and an update goes by.
+fn enter_apart(
+    slots: &mut [u32],
+    counters: &mut [u32],
+    items: &mut [u64],
+    g: Grant,
+    homes: Homes,
+    k: u64,
+) -> Setting
+    requires { ⌜ Homed four (mem (now slots) (now counters) (now items)) (g .animal) homes ⌝ }
+    ensures { λ r. ⌜ Does (entering-new four (mem (now (slots .entry)) (now (counters .entry)) (now (items .entry))) g) k
+        (mem (now (slots .entry)) (now (counters .entry)) (now (items .entry)))
+        (mem (now (slots .exit)) (now (counters .exit)) (now (items .exit))) (said-setting r) ⌝ }
+{
+    enter_new(slots, counters, items, g, homes, k)
+}
+
 // Set. Beside its cut form and not by way of it: an update is then compiled in one piece, and takes half the time.
 pub fn set(slots: &mut [u32], counters: &mut [u32], items: &mut [u64], g: Grant) -> Setting
     ensures { λ r. ⌜ WholeAs four (mem (now (slots .entry)) (now (counters .entry)) (now (items .entry))) (set-animal g)
@@ -199,12 +253,12 @@ pub fn set(slots: &mut [u32], counters: &mut [u32], items: &mut [u64], g: Grant)
     if no != 0 {
         return Setting::Refused(no);
     }
-    let looked = looking::look_up(slots, counters, items, g.animal);
+    let looked = look_whole(slots, counters, items, g.animal);
     let look = looked.look;
     let homes = looked.homes;
     match look {
         Look::Refused(n) => Setting::Refused(n),
-        Look::Absent => enter_new(slots, counters, items, g, homes, k),
+        Look::Absent => enter_apart(slots, counters, items, g, homes, k),
         Look::At(w) => update_held(counters, items, homes, w, g, k),
     }
 }
