@@ -23,6 +23,8 @@ PASSED_OVER = {
 ALLOWED = {
     # packages of Debian
     'README.md': {'gcc-x86-64-linux-gnu', 'g++-x86-64-linux-gnu', 'qemu-user'},
+    # a file that ./check writes
+    'docs/DECISIONS.md': {'target/difference.calls'},
     # it stands for any outcome
     'docs/HOUSE.md': {'outcome'},
     # a function that was tried and dropped
