@@ -5,10 +5,10 @@ use native.Mathlib.Omega.{arith}
 use mathlib.Core.Path.{_≡_, refl, sym, ap, ap₂, _∙_}
 use mathlib.Core.Logic.{_≢_}
 use mathlib.Core.Bool.{Bool, true, false, not}
-use mathlib.Core.Option.{Option, none, some}
-use mathlib.Core.List.{List, [], _∷_}
-use lib.ListN.{length, drop, drop-of-length-le, take}
-use lib.Dec.{eqb, leb}
+use mathlib.Core.Option.{Option}
+use mathlib.Core.List.{List, []}
+use lib.ListN.{length, drop, drop-of-length-le}
+use lib.Dec.{eqb}
 use borrow.Author.Tests.{eqb-true, eqb-false, le-leb, lt-leb, not-true, not-false}
 use Rattle.replay_words.specs.Words.{all-digits, lines, words}
 use Rattle.replay_words.specs.Cursor.{NextWord, PieceAt, part, told as number-told}
@@ -18,12 +18,10 @@ use Rattle.replay_words.specs.declared.Piece.{Piece}
 use Rattle.replay_words.specs.declared.Word.{Word}
 use Rattle.replay_words.proofs.Scan.{bool}
 use Rattle.model.specs.Choice.{choose}
-use Rattle.replay_lines.specs.Taking.{bound, taken, takes}
+use Rattle.replay_lines.specs.Taking.{bound, takes}
 use Rattle.replay_lines.specs.Reasons.{Parting, behind, further, furthest, instead, parting, parts, why-not}
-use Rattle.replay_lines.specs.Cursor.{Parts, told}
+use Rattle.replay_lines.specs.Cursor.{Parts}
 use Rattle.replay_lines.specs.declared.Parting.{Parting as Parted}
-use Rattle.replay_lines.specs.declared.Taken.{Taken}
-use Rattle.replay_lines.specs.declared.Taken.the-variants as taken
 
 -- the reasons by the word
 module _ (w : List ℕ) {t : Bool} (e : t ≡ all-digits w) where

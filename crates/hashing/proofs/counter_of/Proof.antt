@@ -1,6 +1,5 @@
 -- `hashing::counter_of` meets its contract: a number below the divisor is its own remainder. Assumes nothing.
 use native.Mathlib.Nat.{mod-eq-of-lt}
-use native.Mathlib.Omega.{arith}
 use mathlib.Core.Path.{sym}
 use borrow.Author.Needs.{needs}
 use Rattle.hashing.proofs.counter_of.Statement.{statement}

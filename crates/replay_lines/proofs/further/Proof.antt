@@ -1,6 +1,5 @@
 -- `replay_lines::further` meets its contract. Assumes nothing.
 use Rattle.replay_lines.proofs.Reasons.{further-first, further-second}
-use borrow.Author.Needs.{needs}
 use Rattle.replay_lines.proofs.further.Statement.{statement}
 use Rattle.replay_lines.proofs.further.Tie as tie
 

@@ -1,6 +1,5 @@
 -- `replay_rows::status` meets its contract. Assumes nothing.
 use Rattle.replay_rows.proofs.Beside.{status-unwritten, status-heard, status-missed}
-use borrow.Author.Needs.{needs}
 use Rattle.replay_rows.proofs.status.Statement.{statement}
 use Rattle.replay_rows.proofs.status.Tie as tie
 
