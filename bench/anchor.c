@@ -1,4 +1,4 @@
-/* anchor.c: document 01's rules in plain C. See anchor.h. */
+/* anchor.c: the order's rules in plain C. See anchor.h. */
 #include "anchor.h"
 
 #include <string.h>

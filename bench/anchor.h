@@ -1,5 +1,5 @@
 /*
- * anchor.h: a second table by document 01's rules, in plain C, to compare with the proved one.
+ * anchor.h: a second table by the order's rules, in plain C, to compare with the proved one.
  * It was written from the document, not from the Rattle code. The replies have boughladder.h's types, and each call has the arguments of its
  * namesake there, so that the two are called alike.
  */

@@ -106,7 +106,7 @@ static uint64_t an_item_word(size_t i) {
     }
 }
 
-/* The hash of document 01, to aim garbage at an animal's home slots. */
+/* The hash of the order, to aim garbage at an animal's home slots. */
 static uint32_t hash(uint64_t animal) {
     uint32_t h = 2166136261u;
     for (int i = 0; i < 8; i++) h = (h ^ (uint32_t)(animal >> (8 * i) & 255)) * 16777619u;

@@ -1,7 +1,7 @@
 /*
  * peers.cc: nanoseconds a read, ours and those of known hash maps, with a herd and questions as speed.c has them.
  * A peer maps an animal to its permission and stamp, and its read is the lookup and then the judgement of the age by
- * document 01's rules. It makes none of our refusals. Each peer is told beforehand that M animals may come and hashes by
+ * the order's rules. It makes none of our refusals. Each peer is told beforehand that M animals may come and hashes by
  * its default, which does for scattered numbers: libcuckoo, tsl and std by std::hash, the number itself; absl by its own.
  * libcuckoo's find locks two buckets and copies the value: that is its find. A peer whose header is missing is left out.
  * Each round times one portion of reads on every map, another one first each time, and the best round counts; the sums of
@@ -35,7 +35,7 @@ struct Item {
     uint64_t stamp;
 };
 
-/* Fresh, old or ahead, as document 01 says it of a held animal. */
+/* Fresh, old or ahead, as the order says it of a held animal. */
 static BoughladderReading judge(const Item &item, uint64_t limit, uint64_t now) {
     if (item.stamp == UINT64_MAX) return {0, BOUGHLADDER_FRESH, item.permission, 0};
     if (item.stamp > now) return {0, BOUGHLADDER_AHEAD, 0, 0};

@@ -2,7 +2,7 @@
  * boughladder.h: the table inside a grazing gate, for C99 and C++11 on.
  * Link with libboughladder.a, which is for x86-64 Linux and needs memset and memcpy and nothing else.
  *
- *     static uint32_t slots[BOUGHLADDER_SLOTS(64)], counters[16];
+ *     static uint32_t slots[BOUGHLADDER_SLOTS(64)], counters[64];
  *     static uint64_t items[BOUGHLADDER_ITEMS(200)];
  *     BoughladderTable table = BOUGHLADDER_TABLE(slots, counters, items);
  *
@@ -33,14 +33,15 @@
  * The cut forms make only the first k stores of their call and answer as the whole call does: they show what a loss of
  * power leaves. A counter left odd by a cut makes its animals busy (refusal 8), and they stay busy until fresh.
  *
- * Minutes are counted by the caller. UINT64_MAX is no minute: as a stamp it marks a standing permission.
+ * Minutes are counted by the caller. UINT64_MAX is no minute: as a stamp it marks a standing permission. Count from
+ * long ago, so that now is above 10080: then a limit and a now that are swapped are refusal 3.
  *
  * No call takes memory but the three runs and the stack: about 3.2 KB for set, at most 0.4 KB for any other, as
  * examples/c/stack.c measures it.
  * size_t is 64 bits wide in the archive. On a 32-bit target finding, setting, evicting and listing would be smaller,
  * and there is no archive for one.
  *
- * These declarations are tried by examples/c/check; the calls themselves are proved.
+ * These declarations are tried by examples/c/check and ./check; the calls themselves are proved.
  */
 #ifndef BOUGHLADDER_H
 #define BOUGHLADDER_H

@@ -27,8 +27,6 @@ ALLOWED = {
     'docs/DECISIONS.md': {'target/difference.calls'},
     # it stands for any outcome
     'docs/HOUSE.md': {'outcome'},
-    # a function that was tried and dropped
-    'docs/SPEED.md': {'set_looked'},
     # X, c and e stand for any
     'docs/STATEMENTS.md': {'model/specs/X', 'crates/model/specs/X.antt', 'crates/c/must-fail/e.edit'},
     # slips, shown as such

@@ -94,5 +94,5 @@ int main(void) {
     printf("office: %d days, %d cows each, %lu not stored\n", DAYS, COWS, refused);
     printf("antenna: %lu held, %lu to milking, %lu to grazing, %lu answers that no list gave\n", counts[0], counts[1],
            counts[2], counts[3]);
-    return refused == 0 && counts[3] == 0 ? 0 : 1;
+    return refused == 0 && counts[1] > 0 && counts[2] > 0 && counts[3] == 0 ? 0 : 1;
 }

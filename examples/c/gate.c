@@ -1,13 +1,14 @@
 /* A gate: it makes a table, loads the day's list, serves a few cows, and says why one is held. Run by run. */
 #include <inttypes.h>
 #include <stdio.h>
+#include <stdlib.h>
 
 #include "boughladder.h"
 
-/* The lent memory: 64 buckets, 16 counters, 200 places. */
+/* The lent memory: 64 buckets, 64 counters, 200 places. */
 enum { PLACES = 200, LIMIT = 720 };
 static uint32_t slots[BOUGHLADDER_SLOTS(64)];
-static uint32_t counters[16];
+static uint32_t counters[64];
 static uint64_t items[BOUGHLADDER_ITEMS(PLACES)];
 static BoughladderTable table = BOUGHLADDER_TABLE(slots, counters, items);
 
@@ -20,26 +21,32 @@ static const struct {
 
 static void load(uint64_t now) {
     uint32_t refusal = boughladder_table_fresh(&table);
-    size_t i, n = sizeof herd / sizeof herd[0];
+    unsigned i, loaded = 0;
     if (refusal != 0) {
         printf("no table: %s\n", boughladder_refusal_text(refusal));
-        return;
+        exit(1);
     }
-    for (i = 0; i < n; i++) {
+    for (i = 0; i < sizeof herd / sizeof herd[0]; i++) {
         BoughladderSetting stored =
             herd[i].standing ? boughladder_table_set_standing(&table, herd[i].animal, herd[i].permission)
                              : boughladder_table_set(&table, herd[i].animal, herd[i].permission, now);
         if (stored.refusal != 0)
             printf("cow %" PRIu64 " not stored: %s\n", herd[i].animal, boughladder_refusal_text(stored.refusal));
+        else
+            loaded++;
     }
-    printf("minute %" PRIu64 ": %u permissions loaded\n", now, (unsigned)n);
+    printf("minute %" PRIu64 ": %u permissions loaded\n", now, loaded);
 }
 
-/* The lane decides; the rest of the answer only says why. */
-static void serve(uint64_t animal, uint64_t limit, uint64_t now) {
+/* The lane decides; the rest of the answer only says why. A lane that is not the expected one is counted. */
+static int wrong;
+
+static void serve(uint64_t animal, uint64_t limit, uint64_t now, enum BoughladderLane expected) {
     static const char *const lanes[] = {"is held", "goes milking", "goes grazing"};
     BoughladderReading r = boughladder_table_serve(&table, animal, limit, now);
-    printf("minute %" PRIu64 ": cow %" PRIu64 " %s: ", now, animal, lanes[boughladder_lane(r)]);
+    enum BoughladderLane lane = boughladder_lane(r);
+    wrong += lane != expected;
+    printf("minute %" PRIu64 ": cow %" PRIu64 " %s: ", now, animal, lanes[lane]);
     if (r.refusal != 0)
         printf("refusal %u, %s\n", (unsigned)r.refusal, boughladder_refusal_text(r.refusal));
     else if (r.kind == BOUGHLADDER_FRESH)
@@ -60,26 +67,26 @@ int main(void) {
     BoughladderListing list;
 
     load(100);
-    serve(3101, LIMIT, 820);
-    serve(3102, LIMIT, 821);   /* a minute too late */
-    serve(3103, LIMIT, 820);   /* fresh, and no bit is set */
-    serve(3104, LIMIT, 90000); /* standing: always fresh */
-    serve(3102, LIMIT, 99);    /* the clock was set back */
-    serve(4711, LIMIT, 200);   /* not on the list */
-    serve(0, LIMIT, 200);
-    serve(3101, 20000, 200);
+    serve(3101, LIMIT, 820, BOUGHLADDER_MILKING);
+    serve(3102, LIMIT, 821, BOUGHLADDER_HOLDING);   /* a minute too late */
+    serve(3103, LIMIT, 820, BOUGHLADDER_HOLDING);   /* fresh, and no bit is set */
+    serve(3104, LIMIT, 90000, BOUGHLADDER_GRAZING); /* standing: always fresh */
+    serve(3102, LIMIT, 99, BOUGHLADDER_HOLDING);    /* the clock was set back */
+    serve(4711, LIMIT, 200, BOUGHLADDER_HOLDING);   /* not on the list */
+    serve(0, LIMIT, 200, BOUGHLADDER_HOLDING);
+    serve(3101, 20000, 200, BOUGHLADDER_HOLDING);
 
     /* The power goes in the middle of a set: two stores of five were made, and her counter is odd. */
     if (boughladder_table_set_cut(&table, 3101, 7, 300, 2).refusal != 0) return 1;
-    serve(3101, LIMIT, 301);
+    serve(3101, LIMIT, 301, BOUGHLADDER_HOLDING);
     load(302); /* only fresh helps a busy counter */
-    serve(3101, LIMIT, 303);
+    serve(3101, LIMIT, 303, BOUGHLADDER_MILKING);
 
     /* Somebody wrote over a slot of cow 3102. */
     at = boughladder_table_find(&table, 3102);
     for (i = 0; i < table.slots_length; i++)
         if (slots[i] != 0 && slots[i] % 65536 == at.place) slots[i] = 0xdeadbeef;
-    serve(3102, LIMIT, 304);
+    serve(3102, LIMIT, 304, BOUGHLADDER_HOLDING);
     load(305);
 
     /* Room is made: the hand takes the first cow that was not here lately, after it has passed all once. */
@@ -95,5 +102,5 @@ int main(void) {
         else printf(", minute %" PRIu64 "\n", record.stamp);
     }
     printf("gate: the list has %u records\n", (unsigned)list.count);
-    return list.refusal == 0 ? 0 : 1;
+    return list.refusal == 0 && wrong == 0 ? 0 : 1;
 }

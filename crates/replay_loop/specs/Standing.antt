@@ -87,7 +87,7 @@ pub record Next (e : Bool) (calls : List ℕ) (written : ℕ) (portion : List �
   pub bytes : portion ≡ take (length portion) (drop written (answers e calls))
   pub few : written + length portion ≤ 618475290624
 
--- the replay is at its end: if every portion could be written, all answers have gone out, and the lines that were not understood are counted
+-- the replay is at its end: if every portion could be written, as many bytes were handed over as the answers have, and the lines that were not understood are counted
 pub record Ended (e : Bool) (calls : List ℕ) (r : Replayed) : Type 0 where
   pub all : r .whole ≡ true → r .bytes ≡ length (answers e calls)
   pub counted : r .whole ≡ true → r .missed ≡ missed calls

@@ -20,7 +20,7 @@ row-lines (t ∷ ts) = bytes (t .says) ++ (bytes "\n" ++ row-lines ts)
 abbrev pub language : List ℕ
 language = row-lines rows
 
--- line n and its call before the answer, if they are to be shown; no line has more than eight numbers
+-- line n and its call before the answer, if they are to be shown
 unfoldable pub shown : Bool → ℕ → ℕ → List ℕ → List ℕ
 shown e n r xs = choose e (echo n (getD (lines language) r []) xs) []
 
@@ -28,6 +28,7 @@ shown e n r xs = choose e (echo n (getD (lines language) r []) xs) []
 abbrev pub follows : Bool → ℕ → ℕ → List ℕ → World → Reply
 follows e n r xs w = record { text = shown e n r xs ++ meaning r n xs w .text; world = meaning r n xs w .world }
 
+-- no line has more than eight numbers
 unfoldable pub reply-to : Bool → ℕ → World → List ℕ → Reply
 reply-to e n w l = follows e n (said language l .row) (padded 8 (said language l .numbers)) w
 

@@ -1,7 +1,7 @@
 /*
  * Makes the calls of scenarios.txt, each between two stores to `marker`, so that a memory trace shows where it begins
  * and ends. Writes to standard output, as raw words: where the runs are, then for each call its answer and all words.
- * stores.py compares this and the trace with what document 01 says. `stores SCENARIOS` is started by run.
+ * stores.py compares this and the trace with what the order says. `stores SCENARIOS` is started by run.
  */
 #include <stdio.h>
 #include <stdlib.h>

@@ -1,5 +1,5 @@
 #!/usr/bin/env python3
-"""The stores of each call in their order, worked out from document 01 alone, against a memory trace of the library.
+"""The stores of each call one after the other, worked out from the customer's order alone, against a memory trace of the library.
 
     stores.py SCENARIOS MEMORY TRACE    the comparison; MEMORY is what stores.c wrote, TRACE the stores that lackey saw
     stores.py find N V MOVES SEED       looks for a herd whose last animal needs so many moves, and prints its calls
@@ -392,7 +392,7 @@ def compare(scenarios, memory, trace):
     if wrong:
         print('stores: %d of %d calls are not as in the document' % (wrong, calls))
         return 1
-    print('stores: %d calls, %d stores in the order of the document, %d joined' % (calls, stores, joined))
+    print('stores: %d calls, %d stores as the order has them, %d joined' % (calls, stores, joined))
     return 0
 
 
