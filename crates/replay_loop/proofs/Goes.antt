@@ -16,9 +16,10 @@ use Rattle.replay_lines.specs.Line.{said, padded}
 use Rattle.replay_rows.specs.World.{Reply, longest-call, longest-line}
 use Rattle.replay_rows.specs.Meaning.{meaning}
 use Rattle.replay_rows.specs.Replayed.{language, missed-in, replayed, reply-to, shown, unheard}
-use Rattle.replay_loop.specs.Standing.{in-use, Held, LineRead, Stepped, Went}
+use Rattle.replay_steps.specs.Standing.{in-use, Held, Stepped}
+use Rattle.replay_steps.specs.declared.State.{State}
+use Rattle.replay_loop.specs.Going.{LineRead, Went}
 use Rattle.replay_loop.specs.declared.Read.{Read}
-use Rattle.replay_loop.specs.declared.State.{State}
 
 -- the bytes put stand behind those that were there
 put-front : {bs out out′ : List ℕ} {at r : ℕ} → Put bs at out out′ r → at + length bs ≤ length out → take r out′ ≡ take at out ++ bs

@@ -10,8 +10,9 @@ use Rattle.model.specs.Choice.{choose}
 use Rattle.replay_words.specs.Words.{lines, mark-length, without-mark}
 use Rattle.replay_rows.specs.World.{longest-line}
 use Rattle.replay_rows.specs.Replayed.{answers, missed, missed-in, replayed}
-use Rattle.replay_loop.specs.Standing.{coming, in-use, to-miss, Ended, Held, Next, Went}
-use Rattle.replay_loop.specs.declared.State.{State}
+use Rattle.replay_steps.specs.Standing.{in-use, Held}
+use Rattle.replay_steps.specs.declared.State.{State}
+use Rattle.replay_loop.specs.Going.{coming, to-miss, Ended, Next, Went}
 
 pub record Handed (e : Bool) (calls slots counters items records out : List ℕ) (st : State) (written : ℕ) : Type 0 where
   pub gone : List ℕ

@@ -4,7 +4,6 @@ ghost use Prim.Native.Nat.{_≤_};
 ghost use lib.ListN.{length};
 use libc::STDERR_FILENO;
 use libc::STDIN_FILENO;
-use libc::STDOUT_FILENO;
 
 const STATUS_FILENO: i32 = 3;
 
@@ -59,15 +58,11 @@ struct Asked {
 
 const REPLAY: u32 = 0;
 
-const HELP: u32 = 1;
+const TOO_LONG: u32 = 1;
 
-const VERSION: u32 = 2;
+const NO_OPTION: u32 = 2;
 
-const TOO_LONG: u32 = 3;
-
-const NO_OPTION: u32 = 4;
-
-const TWO_FILES: u32 = 5;
+const TWO_FILES: u32 = 3;
 
 fn asks(asked: Asked, what: u32) -> Asked {
     Asked {
@@ -89,12 +84,6 @@ fn with_argument(asked: Asked, i: usize) -> Asked {
         return asks(asked, TOO_LONG);
     }
     let word = &space[..n];
-    if replay_words::is_word(word, b"--help") {
-        return asks(asked, HELP);
-    }
-    if replay_words::is_word(word, b"--version") {
-        return asks(asked, VERSION);
-    }
     if replay_words::is_word(word, b"--echo") {
         return Asked {
             what: asked.what,
@@ -149,15 +138,6 @@ fn arguments() -> Asked {
     asked
 }
 
-// On standard output, for one who asked.
-fn tell(words: &[u8]) -> u8 {
-    if io::write_all(STDOUT_FILENO, words) {
-        return 0;
-    }
-    os::fail(b"replay: the output could not be written");
-    NOTHING
-}
-
 fn refuse(words: &[u8]) -> u8 {
     say(words);
     NOTHING
@@ -193,23 +173,17 @@ fn act(text: &mut [u8], asked: Asked) -> u8
 {
     let what = asked.what;
     match what {
-        HELP => tell(
-            b"replay [--echo] [FILE]: replays a file of calls on one table and prints the answers\n\n  --echo     each answer behind its line's number and call: 14: serve 4711 720 821 -> old 721\n  --help     this text\n  --version  the version\n\nWithout FILE, or with -, the calls come from standard input. A file has at most 2097152 bytes.\nStatus: 0 every line was understood; 2 some line was not; 1 nothing was replayed, or the\noutput could not be written. docs/replay-format.md has the language.\n",
-        ),
-        VERSION => tell(b"replay 1.0.0 (Boughladder)\n"),
         TOO_LONG => refuse(b"replay: an argument is too long\n"),
         NO_OPTION => refuse(
             b"replay: there is no such option; replay --help tells which there are\n",
         ),
-        TWO_FILES => refuse(b"replay: more than one file; they would need a table each\n"),
+        TWO_FILES => refuse(b"replay: more than one file\n"),
         _ => {
             if asked.file != 0 {
                 return replay_file(text, asked.file, asked.echo);
             }
             if libc::isatty(STDIN_FILENO) == 1 {
-                return refuse(
-                    b"replay [--echo] FILE, or replay - for standard input; replay --help tells more\n",
-                );
+                return refuse(b"replay: no file, see --help\n");
             }
             replay_stdin(text, asked.echo)
         }

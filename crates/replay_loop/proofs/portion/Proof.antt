@@ -2,7 +2,7 @@
 use Prim.Native.Nat.{_-_}
 use mathlib.Core.Path.{_≡_}
 use lib.ListN.{length}
-use Rattle.replay_loop.specs.Standing.{Went}
+use Rattle.replay_loop.specs.Going.{Went}
 use Rattle.replay_loop.proofs.Goes.{went-none, went-more, full-forward}
 use borrow.Author.Needs.{needs}
 use Rattle.replay_loop.proofs.portion.Statement.{statement}

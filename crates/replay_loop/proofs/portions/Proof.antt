@@ -2,7 +2,7 @@
 use Prim.Native.Nat.{_-_}
 use mathlib.Core.Path.{_≡_}
 use lib.ListN.{length}
-use Rattle.replay_loop.proofs.Steps.{front}
+use Rattle.replay_steps.proofs.Steps.{front}
 use Rattle.replay_loop.proofs.Handed.{Handed, handed-first, next-portion, handed-more, handed-all, handed-in-part}
 use borrow.Author.Needs.{needs}
 use Rattle.replay_loop.proofs.portions.Statement.{statement}

@@ -1,8 +1,8 @@
--- `replay_loop::step` meets its contract. Assumes nothing.
-use Rattle.replay_loop.proofs.Steps.{slots-front, counters-front, items-front, fronts-ample, on-table-stepped, as-fresh}
+-- `replay_steps::step` meets its contract. Assumes nothing.
+use Rattle.replay_steps.proofs.Steps.{slots-front, counters-front, items-front, fronts-ample, on-table-stepped, as-fresh}
 use borrow.Author.Needs.{needs}
-use Rattle.replay_loop.proofs.step.Statement.{statement}
-use Rattle.replay_loop.proofs.step.Tie as tie
+use Rattle.replay_steps.proofs.step.Statement.{statement}
+use Rattle.replay_steps.proofs.step.Tie as tie
 
 on-table-requires : tie.Need-on-table-requires
 on-table-requires c κs = (search needs, search fronts-ample)

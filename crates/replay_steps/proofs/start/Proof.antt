@@ -1,8 +1,8 @@
--- `replay_loop::start` meets its contract. Assumes nothing.
-use Rattle.replay_loop.proofs.Steps.{front, refused-slots, refused-counters, refused-items, fresh-refused, fresh-made}
+-- `replay_steps::start` meets its contract. Assumes nothing.
+use Rattle.replay_steps.proofs.Steps.{front, refused-slots, refused-counters, refused-items, fresh-refused, fresh-made}
 use borrow.Author.Needs.{needs}
-use Rattle.replay_loop.proofs.start.Statement.{statement}
-use Rattle.replay_loop.proofs.start.Tie as tie
+use Rattle.replay_steps.proofs.start.Statement.{statement}
+use Rattle.replay_steps.proofs.start.Tie as tie
 
 pub start-spec : {M : Type 1} → statement M
 start-spec =

@@ -22,8 +22,8 @@ use Rattle.replay_print.specs.Print.{line}
 use Rattle.replay_rows.specs.declared.Turn.{Turn}
 use Rattle.replay_rows.specs.World.{Ample, World, Reply, Replied, world, longest}
 use Rattle.replay_rows.specs.Meaning.{holds, meaning, starts}
-use Rattle.replay_loop.specs.Standing.{in-use, Held, Stepped, Refused}
-use Rattle.replay_loop.specs.declared.State.{State}
+use Rattle.replay_steps.specs.Standing.{in-use, Held, Stepped, Refused}
+use Rattle.replay_steps.specs.declared.State.{State}
 
 -- the front of a run that is in use has its length
 pub front : (n : ℕ) (run : List ℕ) → n ≤ length run → n ≡ length (take n run)
