@@ -4,11 +4,24 @@ ghost use Prim.Native.Nat.{_+_, _≤_};
 ghost use lib.ListN.{length};
 ghost use Rattle.model.specs.Memory.{mem};
 ghost use Rattle.model.specs.Answers.{hand-back};
-ghost use Rattle.model.specs.Calling.{read, serve, set-animal, delete, evict};
+ghost use Rattle.model.specs.Calling.{grant, read, serve, set-animal, delete, evict};
+ghost use Rattle.replay_rows.specs.Meaning.{permission};
 ghost use Rattle.replay_calls.specs.Told.{Told, Whole, Cut, answer-of};
 use model::Grant;
 use places::Hand;
 use replay_rows::Turn;
+
+// What a set line grants.
+pub fn granted(animal: u64, p: u64, minute: u64, standing: bool) -> Grant
+    ensures { λ r. ⌜ r ≡ grant animal (permission p) minute standing ⌝ }
+{
+    Grant {
+        animal,
+        permission: (p % 4294967296) as u32,
+        minute,
+        standing,
+    }
+}
 
 // Read, with the line of its answer.
 pub fn answer_read(

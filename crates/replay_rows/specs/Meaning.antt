@@ -6,7 +6,7 @@ use mathlib.Core.List.{List, [], _∷_}
 use lib.ListN.{getD}
 use lib.Dec.{leb}
 use Rattle.model.specs.Choice.{choose}
-use Rattle.model.specs.Memory.{mem}
+use Rattle.model.specs.Memory.{Mem, mem}
 use Rattle.model.specs.Shape.{four, shape, good-lengths, fresh-memory}
 use Rattle.model.specs.Calling.{Call, grant, read, serve, set-animal, delete, evict, write-list}
 use Rattle.model.specs.Answers.{Answer, started, refused, hand-back}
@@ -15,7 +15,7 @@ use Rattle.replay_print.specs.Text.{bytes}
 use Rattle.replay_print.specs.Print.{line}
 use Rattle.replay_answers.specs.Text.{text, dump, not-understood, poke-told}
 use Rattle.replay_rows.specs.Poke.{can-poke, poked}
-use Rattle.replay_rows.specs.World.{World, Reply, world, reply}
+use Rattle.replay_rows.specs.World.{World, Replied, Reply, world, reply}
 
 -- it only says something
 abbrev pub says : List ℕ → World → Reply
@@ -118,3 +118,7 @@ meant (t ∷ ts) (suc r) n xs w = meant ts r n xs w
 
 unfoldable pub meaning : ℕ → ℕ → List ℕ → World → Reply
 meaning r n xs w = meant rows r n xs w
+
+-- the code has answered a line that leaves the hand where it was
+abbrev pub Arm : (row n : ℕ) (xs : List ℕ) (m : Mem) (h : ℕ) (m′ : Mem) (at : ℕ) (before after : List ℕ) (next : ℕ) → Type 0
+Arm row n xs m h m′ at before after next = Replied (meaning row n xs (world m h)) m′ at before after (record { next = next; hand = h })

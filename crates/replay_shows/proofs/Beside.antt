@@ -18,11 +18,7 @@ use Rattle.replay_answers.specs.Text.{text, dump, not-understood, poke-told}
 use Rattle.replay_rows.specs.Poke.{Poked}
 use Rattle.replay_rows.specs.declared.Turn.{Turn}
 use Rattle.replay_rows.specs.World.{Ample, World, Replied, world, longest}
-use Rattle.replay_rows.specs.Meaning.{Row, rows, asks, hands, lists, meant, meaning, pokes-slots, pokes-counters, pokes-items, says}
-
--- an arm that keeps the hand
-abbrev Arm : (row n : ℕ) (xs : List ℕ) (m : Mem) (h : ℕ) (m′ : Mem) (at : ℕ) (before after : List ℕ) (next : ℕ) → Type 0
-Arm row n xs m h m′ at before after next = Replied (meaning row n xs (world m h)) m′ at before after (record { next = next; hand = h })
+use Rattle.replay_rows.specs.Meaning.{Arm, Row, rows, asks, hands, lists, meant, meaning, pokes-slots, pokes-counters, pokes-items, says}
 
 -- the rows from 10 on
 module _ {m : Mem} {at : ℕ} {before after : List ℕ} {row : ℕ} (h n : ℕ) (xs : List ℕ) where

@@ -10,10 +10,10 @@ use Rattle.model.specs.Memory.{Mem}
 use Rattle.model.specs.Calling.{Call, grant, read, serve, set-animal, delete, evict}
 use Rattle.model.specs.Answers.{hand-back}
 use Rattle.model.specs.declared.Grant.{Grant}
-use Rattle.replay_calls.specs.Told.{Told, Whole, Cut, answer-of}
+use Rattle.replay_calls.specs.Told.{Told, Whole, answer-of}
 use Rattle.replay_rows.specs.declared.Turn.{Turn}
 use Rattle.replay_rows.specs.World.{Replied, world}
-use Rattle.replay_rows.specs.Meaning.{asks, calls, cuts, turns, cut-turns, meaning, permission}
+use Rattle.replay_rows.specs.Meaning.{Arm, asks, calls, turns, meaning, permission}
 
 module _ {m : Mem} {at next h : ℕ} {before after : List ℕ} (c : Call) where
   asked : Told (answer-of m c) at before after next → Replied (asks c (world m h)) m at before after (record { next = next; hand = h })
@@ -24,24 +24,11 @@ module _ {m : Mem} {at next h : ℕ} {before after : List ℕ} (c : Call) where
   unfolding calls
   called w = record { put = w .told .line; near = omega (arith, w .told .room); left = w .left; hand = refl }
 
-  cut-off : {m′ : Mem} (k : ℕ) → Cut m c k m′ at before after next → Replied (cuts k c (world m h)) m′ at before after (record { next = next; hand = h })
-  unfolding cuts
-  cut-off k w = record { put = w .told .line; near = omega (arith, w .told .room); left = w .left; hand = refl }
-
 -- evict: the hand that comes back
 turned : {m m′ : Mem} {at h : ℕ} {before after : List ℕ} {r : Turn} → Whole m (evict h) m′ at before after (r .next)
     → r .hand ≡ hand-back h (answer-of m (evict h)) → Replied (turns (world m h)) m′ at before after r
 unfolding turns
 turned w e = record { put = w .told .line; near = omega (arith, w .told .room); left = w .left; hand = e }
-
-cut-turned : {m m′ : Mem} {at h : ℕ} {before after : List ℕ} {r : Turn} (k : ℕ) → Cut m (evict h) k m′ at before after (r .next)
-    → r .hand ≡ hand-back h (answer-of m (evict h)) → Replied (cut-turns k (world m h)) m′ at before after r
-unfolding cut-turns
-cut-turned k w e = record { put = w .told .line; near = omega (arith, w .told .room); left = w .left; hand = e }
-
--- an arm that keeps the hand
-abbrev Arm : (row n : ℕ) (xs : List ℕ) (m : Mem) (h : ℕ) (m′ : Mem) (at : ℕ) (before after : List ℕ) (next : ℕ) → Type 0
-Arm row n xs m h m′ at before after next = Replied (meaning row n xs (world m h)) m′ at before after (record { next = next; hand = h })
 
 -- row by row
 module _ {m m′ : Mem} {at h next : ℕ} {before after : List ℕ} {row : ℕ} (n : ℕ) (xs : List ℕ) where
@@ -63,20 +50,6 @@ module _ {m m′ : Mem} {at h next : ℕ} {before after : List ℕ} {row : ℕ} 
   unfolding meaning
   as-delete e w = rw e (called (delete (getD xs 0 0)) w)
 
-  pub as-cut-set : {g : Grant} → row ≡ 6 → g ≡ grant (getD xs 1 0) (permission (getD xs 2 0)) (getD xs 3 0) false
-      → Cut m (set-animal g) (getD xs 0 0) m′ at before after next → Arm row n xs m h m′ at before after next
-  unfolding meaning
-  as-cut-set {g} e q w = rw (e, ← q) (cut-off (set-animal g) (getD xs 0 0) w)
-
-  pub as-cut-standing : {g : Grant} → row ≡ 7 → g ≡ grant (getD xs 1 0) (permission (getD xs 2 0)) (getD xs 3 0) true
-      → Cut m (set-animal g) (getD xs 0 0) m′ at before after next → Arm row n xs m h m′ at before after next
-  unfolding meaning
-  as-cut-standing {g} e q w = rw (e, ← q) (cut-off (set-animal g) (getD xs 0 0) w)
-
-  pub as-cut-delete : row ≡ 8 → Cut m (delete (getD xs 1 0)) (getD xs 0 0) m′ at before after next → Arm row n xs m h m′ at before after next
-  unfolding meaning
-  as-cut-delete e w = rw e (cut-off (delete (getD xs 1 0)) (getD xs 0 0) w)
-
 module _ {m : Mem} {at h next : ℕ} {before after : List ℕ} {row : ℕ} (n : ℕ) (xs : List ℕ) where
   pub as-read : row ≡ 1 → Told (answer-of m (read (getD xs 0 0) (getD xs 1 0) (getD xs 2 0))) at before after next → Arm row n xs m h m at before after next
   unfolding meaning
@@ -87,8 +60,3 @@ module _ {m m′ : Mem} {at h : ℕ} {before after : List ℕ} {row : ℕ} {r : 
       → Replied (meaning row n xs (world m h)) m′ at before after r
   unfolding meaning
   as-evict hi n0 n1 n2 n3 n4 w b = let e : row ≡ 5 = omega arith in rw e (turned w b)
-
-  pub as-cut-evict : 6 ≤ row → row ≤ 9 → row ≢ 6 → row ≢ 7 → row ≢ 8 → Cut m (evict h) (getD xs 0 0) m′ at before after (r .next) → r .hand ≡ hand-back h (answer-of m (evict h))
-      → Replied (meaning row n xs (world m h)) m′ at before after r
-  unfolding meaning
-  as-cut-evict lo hi n6 n7 n8 w b = let e : row ≡ 9 = omega arith in rw e (cut-turned (getD xs 0 0) w b)

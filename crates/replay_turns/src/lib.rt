@@ -4,23 +4,9 @@ ghost use mathlib.Core.Logic.{_≢_};
 ghost use Prim.Native.Nat.{_≤_};
 ghost use lib.ListN.{length};
 ghost use Rattle.model.specs.Memory.{mem};
-ghost use Rattle.model.specs.Calling.{grant};
 ghost use Rattle.replay_rows.specs.World.{Ample, Replied, world};
-ghost use Rattle.replay_rows.specs.Meaning.{meaning, permission};
-use model::Grant;
+ghost use Rattle.replay_rows.specs.Meaning.{meaning};
 use replay_rows::Turn;
-
-// What a set line grants.
-fn granted(animal: u64, p: u64, minute: u64, standing: bool) -> Grant
-    ensures { λ r. ⌜ r ≡ grant animal (permission p) minute standing ⌝ }
-{
-    Grant {
-        animal,
-        permission: (p % 4294967296) as u32,
-        minute,
-        standing,
-    }
-}
 
 // Rows 0 to 5: serve, read, set, delete, evict.
 fn whole_call(
@@ -56,14 +42,21 @@ fn whole_call(
                 slots,
                 counters,
                 items,
-                granted(a, b, c, false),
+                replay_calls::granted(a, b, c, false),
                 out,
                 at,
             ),
             hand,
         },
         3 => Turn {
-            next: replay_calls::answer_set(slots, counters, items, granted(a, b, c, true), out, at),
+            next: replay_calls::answer_set(
+                slots,
+                counters,
+                items,
+                replay_calls::granted(a, b, c, true),
+                out,
+                at,
+            ),
             hand,
         },
         4 => Turn {
@@ -71,60 +64,6 @@ fn whole_call(
             hand,
         },
         _ => replay_calls::answer_evict(slots, counters, items, hand, out, at),
-    }
-}
-
-// Rows 6 to 9: a call that is cut behind its first k stores.
-fn cut_call(
-    row: usize,
-    number: u64,
-    numbers: &[u64],
-    slots: &mut [u32],
-    counters: &mut [u32],
-    items: &mut [u64],
-    out: &mut [u8],
-    at: usize,
-    hand: usize,
-) -> Turn
-    requires { ⌜ (6 ≤ row) × (row ≤ 9) × (length (now numbers) ≡ 8) ⌝ }
-    requires { ⌜ Ample (mem (now slots) (now counters) (now items)) at (now out) ⌝ }
-    ensures { λ r. ⌜ Replied (meaning row number (now (numbers .entry)) (world (mem (now (slots .entry)) (now (counters .entry)) (now (items .entry))) hand))
-        (mem (now (slots .exit)) (now (counters .exit)) (now (items .exit))) at (now (out .entry)) (now (out .exit)) r ⌝ }
-{
-    let k = numbers[0];
-    let a = numbers[1];
-    let b = numbers[2];
-    let c = numbers[3];
-    match row {
-        6 => Turn {
-            next: replay_calls::answer_set_cut(
-                slots,
-                counters,
-                items,
-                granted(a, b, c, false),
-                k,
-                out,
-                at,
-            ),
-            hand,
-        },
-        7 => Turn {
-            next: replay_calls::answer_set_cut(
-                slots,
-                counters,
-                items,
-                granted(a, b, c, true),
-                k,
-                out,
-                at,
-            ),
-            hand,
-        },
-        8 => Turn {
-            next: replay_calls::answer_delete_cut(slots, counters, items, a, k, out, at),
-            hand,
-        },
-        _ => replay_calls::answer_evict_cut(slots, counters, items, hand, k, out, at),
     }
 }
 
@@ -150,7 +89,7 @@ pub fn on_table(
         return whole_call(row, number, numbers, slots, counters, items, out, at, hand);
     }
     if row <= 9 {
-        return cut_call(row, number, numbers, slots, counters, items, out, at, hand);
+        return replay_cuts::cut_call(row, number, numbers, slots, counters, items, out, at, hand);
     }
     replay_shows::beside_the_calls(
         row,

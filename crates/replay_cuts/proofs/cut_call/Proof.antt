@@ -1,8 +1,8 @@
--- `replay_turns::cut_call` meets its contract. Assumes nothing.
-use Rattle.replay_turns.proofs.Turns.{as-cut-set, as-cut-standing, as-cut-delete, as-cut-evict}
+-- `replay_cuts::cut_call` meets its contract. Assumes nothing.
+use Rattle.replay_cuts.proofs.Cuts.{as-cut-set, as-cut-standing, as-cut-delete, as-cut-evict}
 use borrow.Author.Needs.{needs}
-use Rattle.replay_turns.proofs.cut_call.Statement.{statement}
-use Rattle.replay_turns.proofs.cut_call.Tie as tie
+use Rattle.replay_cuts.proofs.cut_call.Statement.{statement}
+use Rattle.replay_cuts.proofs.cut_call.Tie as tie
 
 pub cut-call-spec : {M : Type 1} → statement M
 cut-call-spec =
