@@ -21,7 +21,7 @@ static Table ours, theirs, others;
 /* Not inlined, so that callgrind tells each kind of work by its name. */
 #define WORK(name)                                           \
     __attribute__((noinline)) static void name(Table *t) {   \
-        const Second second = {TABLE};                       \
+        const BoughladderTable second = {TABLE};             \
         (void)second;
 #define WORKS(who)                                                                                                      \
     WORK(who##_reads)                                                                                                   \

@@ -158,7 +158,7 @@ static void poke(void) {
 
 static Reply make(const Call *c, int who) {
     Table *t = &tables[who];
-    Second second = {t->slots, c->sl, t->counters, c->cl, t->items, c->il};
+    BoughladderTable second = {t->slots, c->sl, t->counters, c->cl, t->items, c->il};
     Reply r;
     memset(&r, 0, sizeof r);
 #define TABLE t->slots, c->sl, t->counters, c->cl, t->items, c->il

@@ -17,7 +17,7 @@ typedef struct {
     uint16_t bucket, parent, slot;
 } Visit;
 
-static inline int good_shape(const Second *t) {
+static inline int good_shape(const BoughladderTable *t) {
     size_t n = t->slots_length / 4, m = t->items_length / 4;
     return t->slots_length % 4 == 0 && n >= 2 && n <= 2048 && (n & (n - 1)) == 0 && t->counters_length >= 1 &&
            t->counters_length <= 1024 && t->items_length % 4 == 0 && m >= 1 && m <= 4096;
@@ -35,7 +35,7 @@ static inline uint32_t fnv1a(uint64_t animal) {
 static inline uint32_t spread(uint32_t tag, uint32_t n) { return ((tag * 1540483477u) & (n - 1)) | 1u; }
 static inline uint32_t smaller(uint32_t a, uint32_t b) { return a < b ? a : b; }
 
-static inline Homes homes_of(const Second *t, uint64_t animal) {
+static inline Homes homes_of(const BoughladderTable *t, uint64_t animal) {
     uint32_t n = (uint32_t)(t->slots_length / 4), h = fnv1a(animal), tag = h >> 24;
     Homes home = {.tag = tag ? tag : 1, .first = h & (n - 1)};
     home.other = home.first ^ spread(home.tag, n);
@@ -50,7 +50,7 @@ static inline uint32_t damaged(uint32_t word, uint32_t m) {
 
 /* The place of the hit, ABSENT or DAMAGED. All eight words are judged, then all tags compared; only the words that have the
    animal's tag are followed to their places. */
-static inline int64_t hit_of(const Second *t, Homes home, uint64_t animal, size_t *slot) {
+static inline int64_t hit_of(const BoughladderTable *t, Homes home, uint64_t animal, size_t *slot) {
     const uint32_t *first = t->slots + 4 * home.first, *other = t->slots + 4 * home.other;
     uint32_t m = (uint32_t)(t->items_length / 4), words[8], bad = 0, same = 0;
     for (int i = 0; i < 4; i++) {
@@ -74,7 +74,7 @@ static inline int64_t hit_of(const Second *t, Homes home, uint64_t animal, size_
 }
 
 /* Read; *found is the place of a fresh answer. */
-static inline BoughladderReading reading(const Second *t, uint64_t animal, uint64_t limit, uint64_t now, int64_t *found) {
+static inline BoughladderReading reading(const BoughladderTable *t, uint64_t animal, uint64_t limit, uint64_t now, int64_t *found) {
     BoughladderReading r = {0, 0, 0, 0};
     if (!good_shape(t)) { r.refusal = 1; return r; }
     if (animal == 0) { r.refusal = 2; return r; }
@@ -97,19 +97,19 @@ static inline BoughladderReading reading(const Second *t, uint64_t animal, uint6
     return r;
 }
 
-BoughladderReading second_read(const Second *t, uint64_t animal, uint64_t limit, uint64_t now) {
+BoughladderReading second_read(const BoughladderTable *t, uint64_t animal, uint64_t limit, uint64_t now) {
     int64_t place;
     return reading(t, animal, limit, now, &place);
 }
 
-BoughladderReading second_serve(const Second *t, uint64_t animal, uint64_t limit, uint64_t now) {
+BoughladderReading second_serve(const BoughladderTable *t, uint64_t animal, uint64_t limit, uint64_t now) {
     int64_t place;
     BoughladderReading r = reading(t, animal, limit, now, &place);
     if (r.kind == BOUGHLADDER_FRESH) t->items[4 * place + 3] = 1;
     return r;
 }
 
-BoughladderSetting second_set(const Second *t, uint64_t animal, uint32_t permission, uint64_t now, uint32_t standing) {
+BoughladderSetting second_set(const BoughladderTable *t, uint64_t animal, uint32_t permission, uint64_t now, uint32_t standing) {
     BoughladderSetting s = {0, 0, 0};
     if (!good_shape(t)) { s.refusal = 1; return s; }
     if (animal == 0) { s.refusal = 2; return s; }
@@ -178,7 +178,7 @@ BoughladderSetting second_set(const Second *t, uint64_t animal, uint32_t permiss
     return s;
 }
 
-uint32_t second_delete(const Second *t, uint64_t animal) {
+uint32_t second_delete(const BoughladderTable *t, uint64_t animal) {
     if (!good_shape(t)) return 1;
     if (animal == 0) return 2;
     Homes home = homes_of(t, animal);

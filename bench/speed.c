@@ -29,7 +29,7 @@ static int rounds = 150;
 typedef double Work(Table *t, size_t from);
 #define WORK(name)                            \
     static double name(Table *t, size_t from) { \
-        const Second second = {TABLE};        \
+        const BoughladderTable second = {TABLE}; \
         (void)second, (void)from;
 #define ASKS(who, works, call)                                                                              \
     WORK(who##_##works)                                                                                     \
