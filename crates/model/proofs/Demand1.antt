@@ -13,7 +13,7 @@ use Rattle.model.specs.Memory.{Mem, animal, permission, stamp}
 use Rattle.model.specs.Shape.{Shape, right-lengths, shape-of, Ways}
 use Rattle.model.specs.Stores.{stores}
 use Rattle.model.specs.Answers.{Answer, absent, ahead, at-place, fresh, Listed, refusal-numbers, paper, listed, old, refused, started}
-use Rattle.model.specs.Age.{age, bad-time, is-fresh, judge, verdict, bad-grant}
+use Rattle.model.specs.Age.{age, bad-time, is-fresh, judge, late, verdict, bad-grant}
 use Rattle.model.specs.Clock.{Victim, victim}
 use Rattle.model.specs.Listing.{listing, live-count}
 use Rattle.model.specs.Calls.{Outcome, asked, busy, call, delete-at, enter-at, evict-at, evict-slot, find-at, held, hit, home-damage, refuse}
@@ -85,7 +85,7 @@ module _ (Y : Shape) (m : Mem) where
 
   sets : (g : Grant) (o : Option ℕ) → Clean (set-at Y m g o)
   sets g none = enters g (vacant-place (Y .places) (m .items))
-  sets g (some p) = λ n e. true-false (ap is-refusal e) refl
+  sets g (some p) = one-by-one (late (stamp (m .items) p) g) (refusal 11 refl) λ n e. true-false (ap is-refusal e) refl
 
   deletes : (x : ℕ) (o : Option ℕ) → Clean (delete-at Y m x o)
   deletes x none = refusal 7 refl

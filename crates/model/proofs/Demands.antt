@@ -5,10 +5,10 @@ use mathlib.Core.Logic.{_⊎_}
 use mathlib.Core.List.{List, [], _∷_}
 use lib.ListN.{replicate}
 use Rattle.model.specs.Choice.{choose}
-use Rattle.model.specs.Memory.{Mem}
+use Rattle.model.specs.Memory.{Mem, stamp}
 use Rattle.model.specs.Shape.{Shape, fresh-memory, four, eight, Ways}
 use Rattle.model.specs.Answers.{fresh, refused, started}
-use Rattle.model.specs.Row.{plain, row-call, row-event, walk-to, beyond}
+use Rattle.model.specs.Row.{plain, row-call, row-event, row-late, walk-to, beyond}
 use Rattle.model.specs.WellFormed.{WellFormed}
 use Rattle.model.specs.AnyTable.{Table, beside, leaves, left}
 use Rattle.model.specs.Demands.{Allowed, Demand1, Demand2, Demand3, Story, places, row, table, shape-in}
@@ -85,8 +85,9 @@ module _ (W : Ways) where
         same-words = same-story;
         fresh-only = freshes;
         cut-reads = λ s c t h. seen-on W (s .memory) (s .right) (m s) (well-story s) c t;
-        no-search = λ s q good p e.
-            counts-on W (s .memory) (s .right) (m s) (well-story s) q good p (ap (λ l. walk-to l (q .animal) (Z s .places) 0) (same-story s) ∙ e);
+        no-search = λ s q good p e k.
+            counts-on W (s .memory) (s .right) (m s) (well-story s) q good p (ap (λ l. walk-to l (q .animal) (Z s .places) 0) (same-story s) ∙ e)
+            (ap (λ l. row-late (Z s .places) (stamp l p) q) (same-story s) ∙ k);
       }
 
   pub our-room : Demand3 W O

@@ -1,6 +1,6 @@
 -- Where a definition says another thing than document 01, it shows here first
 pub mod AsWritten
--- Footing: lists, the hash, what a shape's numbers are like, calm memory, the row's words, lengths and stores
+-- Footing: lists, the hash, what a shape's numbers are like, calm memory, the row's words, lengths and stores, late lists
 pub mod ListLaws
 pub mod Hash
 pub mod ShapeLaws
@@ -8,6 +8,7 @@ pub mod Calm
 pub mod RowWords
 pub mod Trace
 pub mod Lent
+pub mod Late
 pub mod Paper
 pub mod Said
 -- Pillar ROOM: legal moves and the visit list; why the search's moves are the fewest

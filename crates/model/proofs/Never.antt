@@ -14,11 +14,11 @@ use lib.Dec.{eqb}
 use borrow.Author.Tests.{eqb-true}
 use lib.Ieee.{size}
 use Rattle.model.specs.Choice.{choose, range, there}
-use Rattle.model.specs.Memory.{Mem, animal, place, tag, word}
+use Rattle.model.specs.Memory.{Mem, animal, place, stamp, tag, word}
 use Rattle.model.specs.Shape.{Shape, homes, four, Ways, eight}
 use Rattle.model.specs.Stores.{Block, Store, apply, apply-all, bump, enter, item-to, move, recency, remove, slot-to, stores, stores-of, update, whole}
 use Rattle.model.specs.Moves.{Move, moved}
-use Rattle.model.specs.Age.{bad-grant}
+use Rattle.model.specs.Age.{bad-grant, late}
 use Rattle.model.specs.Calls.{Outcome, busy, call, enter-at, enter-block, final-slot, held, hit, hits, home-damage, move-blocks, moves-found}
 use Rattle.model.specs.Calls.{refuse, set-at, stopped, vacant-place, visited, search-damage}
 use Rattle.model.specs.Row.{walk-to}
@@ -186,7 +186,7 @@ module _ (Y : Shape) (m : Mem) where
 
   set-at-keeps : (q : Grant) (o : Option ℕ) → Keeping (set-at Y m q o)
   set-at-keeps q none = new-keeps q (vacant-place (Y .places) (m .items))
-  set-at-keeps q (some p) = record { keeps = tt }
+  set-at-keeps q (some p) = pass (late (stamp (m .items) p) q) (refusal 11) (record { keeps = tt })
 
   set-keeps : (q : Grant) → Keeping (call Y m (set-animal q))
   set-keeps q =

@@ -2,18 +2,18 @@
 use Prim.Native.Nat.{ℕ, _*_, _<_}
 use mathlib.Core.Path.{_≡_, sym, ap, _∙_, subst}
 use mathlib.Core.Logic.{_⊎_, inl, inr, ⊎-elim}
-use mathlib.Core.Bool.{true}
+use mathlib.Core.Bool.{true, false}
 use mathlib.Core.Option.{none, some}
 use mathlib.Core.List.{List, []}
 use lib.ListN.{length, take}
 use Rattle.model.specs.Choice.{choose}
-use Rattle.model.specs.Memory.{Mem}
+use Rattle.model.specs.Memory.{Mem, stamp}
 use Rattle.model.specs.Shape.{Shape, fresh-memory, right-lengths, shape-of, Ways, counter-of}
 use Rattle.model.specs.Stores.{cut-stores, stores, wholes}
 use Rattle.model.specs.Answers.{Answer, fresh, stored}
-use Rattle.model.specs.Calls.{Outcome, after-call, call, cut-call, reading, set-at, held}
+use Rattle.model.specs.Calls.{Outcome, after-call, call, cut-call, reading, refuse, set-at, held, updated}
 use Rattle.model.specs.Lent.{lent-call}
-use Rattle.model.specs.Row.{plain, row-call, walk-to, beyond}
+use Rattle.model.specs.Row.{plain, row-call, row-late, walk-to, beyond}
 use Rattle.model.specs.WellFormed.{WellFormed}
 use Rattle.model.specs.AnyTable.{Table, cut-at, leaves, make-all}
 use Rattle.model.specs.Demands.{Allowed, Roomy, SeenBy, reads, GoodInputs}
@@ -27,8 +27,9 @@ use Rattle.model.proofs.RoomOnWellFormed.{roomy}
 use Rattle.model.proofs.Trace.{blank, trace-all, trace-cut, wholes-stores, wiped}
 use Rattle.model.specs.Calling.{make-fresh, Call, did, Typed, read, set-animal, serve, about}
 use Rattle.model.proofs.Calm.{past-asked}
-use Rattle.model.specs.Age.{bad-grant, no-minute}
-use borrow.Author.Tests.{ne-eqb}
+use Rattle.model.specs.Age.{bad-grant}
+use Rattle.model.proofs.Late.{good-grant}
+use Rattle.model.proofs.RowWords.{late-is}
 use Rattle.model.proofs.ReadWalk.{held-walk}
 
 module _ (W : Ways) (m₀ : Mem) (right : right-lengths W m₀ ≡ true) where
@@ -124,13 +125,14 @@ module _ (W : Ways) (m₀ : Mem) (right : right-lengths W m₀ ≡ true) where
 
     -- a set of a held animal reports no search
     pub counts-on : (q : Grant) → GoodInputs q → (p : ℕ) → walk-to (m .items) (q .animal) (Y .places) 0 ≡ some p
-        → O .answer m (did (set-animal q)) ≡ stored 0 0
-    counts-on q good p e =
+        → row-late (Y .places) (stamp (m .items) p) q ≡ false → O .answer m (did (set-animal q)) ≡ stored 0 0
+    counts-on q good p e k =
         let x = q .animal in
         answer-is (set-animal q) ∙ ap (λ (o : Outcome). o .answer)
-        (past-asked Y m x (g .even (counter-of Y x)) (g .undamaged) (good .real) (bad-grant q) (ne-eqb (q .minute) no-minute (good .timely))
+        (past-asked Y m x (g .even (counter-of Y x)) (g .undamaged) (good .real) (bad-grant q) (good-grant good)
         (set-at Y m q (held Y m x))
-        ∙ ap (set-at Y m q) (held-walk Y m g x (good .real) ∙ e))
+        ∙ ap (set-at Y m q) (held-walk Y m g x (good .real) ∙ e)
+        ∙ ap (λ b. choose b (refuse 11) (updated (counter-of Y x) p q)) (late-is (Y .places) (stamp (m .items) p) q ∙ k))
 
     -- demand 3
     pub roomy-on : (q : Grant) → GoodInputs q

@@ -16,7 +16,7 @@ use Rattle.model.specs.Stores.{wholes, whole as whole-block}
 use Rattle.model.specs.Moves.{Move, moved-by}
 use Rattle.model.specs.Visits.{free-slot}
 use Rattle.model.specs.Answers.{Answer, refused, stored}
-use Rattle.model.specs.Age.{bad-grant, no-minute}
+use Rattle.model.specs.Age.{bad-grant}
 use Rattle.model.specs.Calls.{Outcome, after-call, call, enter-at, enter-block, final-slot, held, move-block, entered, moves-found}
 use Rattle.model.specs.Calls.{move-blocks, refuse, set-at, stopped, vacant-place, visited}
 use Rattle.model.specs.Row.{walk-to}
@@ -28,6 +28,7 @@ use Rattle.model.proofs.Positions.{visits-count}
 use Rattle.model.proofs.Search.{room-iff, slot-is, stop-is, stop-le}
 use Rattle.model.proofs.ListLaws.{walk-first}
 use Rattle.model.proofs.Calm.{past-asked}
+use Rattle.model.proofs.Late.{good-grant}
 use Rattle.model.proofs.ReadWalk.{held-walk}
 use Rattle.model.proofs.StepSet.{final-home, found-room, no-search-damage}
 use Rattle.model.specs.Calling.{Call, set-animal}
@@ -50,7 +51,7 @@ module _ (Y : Shape) (L : Lawful Y) (m : Mem) (g : WellFormed Y m) (q : Grant) (
   searched : call Y m the-set ≡ choose at-end (refuse 6) (entered Y m q p)
   unfolding vacant-place
   searched =
-      past-asked Y m x (g .even (counter-of Y x)) (g .undamaged) (good .real) (bad-grant q) (ne-eqb (q .minute) no-minute (good .timely))
+      past-asked Y m x (g .even (counter-of Y x)) (g .undamaged) (good .real) (bad-grant q) (good-grant good)
       (set-at Y m q (held Y m x))
       ∙ ap (set-at Y m q) (held-walk Y m g x (good .real) ∙ away)
       ∙ ap (enter-at Y m q) (sym (walk-first (m .items) 0 (Y .places) 0) ∙ vacant)

@@ -5,7 +5,7 @@ use native.Mathlib.Omega.{arith}
 use native.Mathlib.Decide.{ℕ-discrete, decLt, decLe}
 use mathlib.Core.Path.{_≡_, refl, sym, ap, _∙_, ap₂}
 use mathlib.Core.Logic.{_≢_, dite}
-use mathlib.Core.Bool.{Bool, true, false, not, _||_}
+use mathlib.Core.Bool.{Bool, true, false, not, _&&_, _||_}
 use mathlib.Core.Option.{some}
 use mathlib.Core.List.{List, [], _∷_, _++_}
 use lib.Dec.{eqb, ltb}
@@ -14,9 +14,10 @@ use Rattle.model.specs.Choice.{any, choose, first, range, there}
 use Rattle.model.specs.Memory.{animal, live, permission, stamp}
 use Rattle.model.specs.Hash.{bytes}
 use Rattle.model.specs.Answers.{ahead, fresh, old, says-fresh}
-use Rattle.model.specs.Age.{age, bad-time, is-fresh, verdict, standing-mark, no-minute}
+use Rattle.model.specs.Age.{age, bad-grant, bad-time, is-fresh, late, verdict, standing-mark, no-minute}
 use Rattle.model.specs.Listing.{list-record, live-count, records}
-use Rattle.model.specs.Row.{low-bytes, row-bad-time, row-count, row-list, row-says}
+use Rattle.model.specs.Row.{low-bytes, row-bad-grant, row-bad-time, row-count, row-late, row-list, row-says}
+use Rattle.model.specs.declared.Grant.{Grant}
 use Rattle.model.proofs.ListLaws.{bool}
 
 -- age
@@ -44,12 +45,29 @@ fresh-says limit now v s = fresh-told (is-fresh limit now s) (v % 2 ^ 32) (age n
 pub fresh-is : (limit now v s : ℕ) → v < 2 ^ 32 → is-fresh limit now s ≡ says-fresh (row-says limit now v s)
 fresh-is limit now v s h = sym (fresh-says limit now v s) ∙ ap says-fresh (says-is limit now v s h)
 
+or-is : (b c : Bool) → (b || c) ≡ choose b true c
+or-is true c = refl
+or-is false c = refl
+
 pub time-is : (M limit now : ℕ) → bad-time limit now ≡ row-bad-time M limit now
 time-is M limit now = or-is (ltb 10080 limit) (eqb now no-minute)
+
+-- set's minutes, and a late list
+pub grant-is : (M : ℕ) (g : Grant) → bad-grant g ≡ row-bad-grant M g
+grant-is M g = or-is (eqb (g .minute) no-minute) (ltb (g .minute) (g .issued))
+
+pub late-is : (M s : ℕ) (g : Grant) → late s g ≡ row-late M s g
+unfolding late
+late-is M s g = go (ltb (g .issued) s) (eqb s standing-mark) (g .standing)
   where
-    or-is : (b c : Bool) → (b || c) ≡ choose b true c
-    or-is true c = refl
-    or-is false c = refl
+    go : (a b c : Bool) → (a && (not b && not c)) ≡ choose c false (choose b false a)
+    go true true true = refl
+    go true true false = refl
+    go true false true = refl
+    go true false false = refl
+    go false b true = refl
+    go false true false = refl
+    go false false false = refl
 
 -- the list
 pub bytes-is : (n x i : ℕ) → bytes n (x / 256 ^ i) ≡ low-bytes x i n

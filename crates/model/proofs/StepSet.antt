@@ -10,15 +10,15 @@ use lib.ListN.{length, take}
 use lib.Dec.{eqb}
 use borrow.Author.Tests.{eq-eqb, eqb-true, eqb-false}
 use Rattle.model.specs.Choice.{any, choose, first}
-use Rattle.model.specs.Memory.{Mem, animal, damage-at}
+use Rattle.model.specs.Memory.{Mem, animal, damage-at, stamp}
 use Rattle.model.specs.Shape.{Home, Shape, bucket, counter-of, pair, slots-of}
 use Rattle.model.specs.Stores.{Block, update, whole, wholes}
 use Rattle.model.specs.Moves.{Move, Run, moved, moved-by}
 use Rattle.model.specs.Visits.{stop-slot}
-use Rattle.model.specs.Answers.{refused}
+use Rattle.model.specs.Answers.{refused, stored}
 use Rattle.model.specs.Calls.{enter-at, enter-block, enter-blocks, final-slot, move-block, move-blocks, refuse, moves-found, entered}
 use Rattle.model.specs.Calls.{set-at, stopped, vacant-place, visited, search-damage}
-use Rattle.model.specs.Row.{fill, row-new, row-set}
+use Rattle.model.specs.Row.{fill, renew, row-new, row-set, stay}
 use Rattle.model.specs.WellFormed.{WellFormed}
 use Rattle.model.specs.declared.Grant.{Grant}
 use Rattle.model.proofs.ShapeLaws.{Lawful}
@@ -28,8 +28,9 @@ use Rattle.model.proofs.ListLaws.{bool, found, in-range, missing, range
 use Rattle.model.proofs.Calm.{none-damaged}
 use Rattle.model.proofs.KeepBlocks.{Enters, Fits, keep, live-in}
 use Rattle.model.proofs.Cut.{Tale, done, last, quiet}
-use Rattle.model.proofs.Step.{Held, Step, still, walked}
-use Rattle.model.specs.Age.{stamp-of}
+use Rattle.model.proofs.Step.{Held, Step, both, still, walked}
+use Rattle.model.proofs.RowWords.{late-is}
+use Rattle.model.specs.Age.{late, stamp-of}
 
 module _ (Y : Shape) (L : Lawful Y) where
   -- moves, and then what comes last
@@ -129,4 +130,7 @@ module _ (Y : Shape) (L : Lawful Y) (m : Mem) (g : WellFormed Y m) (q : Grant) (
   step-set (found {i = p} r t) =
       let e = eqb-true (animal (m .items) p) x t in
       let f : Fits Y m (update (counter-of Y x) p (q .permission) (stamp-of q)) = (rw e nz, hv, ap (counter-of Y) (sym e)) in
-      record { tale = last f e; answer = refl; items = refl }
+      subst (λ b. Step Y (λ a. x) m (set-at Y m q (some p)) (λ r. choose b (stay (m .items) (refused 11))
+      (record { answer = stored 0 0; words = renew (m .items) p (q .permission) (stamp-of q) }))) (late-is (Y .places) (stamp (m .items) p) q)
+      (both Y (λ a. x) m (late (stamp (m .items) p) q) (λ z. still Y (λ a. x) m (refused 11) (refused 11) refl)
+      λ z. record { tale = last f e; answer = refl; items = refl })

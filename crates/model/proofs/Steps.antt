@@ -8,12 +8,12 @@ use Rattle.model.specs.Memory.{Mem}
 use Rattle.model.specs.Shape.{Shape, homes}
 use Rattle.model.specs.Age.{bad-time, judge, bad-grant}
 use Rattle.model.specs.Calls.{call, delete-at, find-at, held, hit, hits, serve-at, set-at, tell}
-use Rattle.model.specs.Row.{row-bad-time, row-call, row-delete, row-find, row-read, row-serve, row-set, stay}
+use Rattle.model.specs.Row.{row-bad-grant, row-bad-time, row-call, row-delete, row-find, row-read, row-serve, row-set, stay}
 use Rattle.model.specs.WellFormed.{WellFormed}
 use Rattle.model.proofs.ShapeLaws.{Lawful}
 use Rattle.model.proofs.ListLaws.{First, first-is}
 use Rattle.model.proofs.ReadWalk.{held-walk}
-use Rattle.model.proofs.RowWords.{time-is}
+use Rattle.model.proofs.RowWords.{grant-is, time-is}
 use Rattle.model.proofs.Step.{Step, as-walked, step-asked, step-delete, step-find, step-list, step-read, step-serve, walked}
 use Rattle.model.proofs.StepSet.{step-set}
 use Rattle.model.proofs.StepEvict.{step-evict}
@@ -37,7 +37,7 @@ module _ (Y : Shape) (L : Lawful Y) (m : Mem) (g : WellFormed Y m) where
       λ nz. as-walked Y L m g (λ a. x) x nz (λ o. tell (find-at o)) (λ o f. stay (m .items) (row-find (Y .places) o)) λ o k. step-find Y L m g x o
   step (set-animal q) h =
       let x = q .animal in
-      step-asked Y (λ a. x) m g x (bad-grant q) (bad-grant q) refl (set-at Y m q (held Y m x))
+      step-asked Y (λ a. x) m g x (bad-grant q) (row-bad-grant (Y .places) q) (grant-is (Y .places) q) (set-at Y m q (held Y m x))
       (λ f. row-set (Y .places) f (m .items) q (walked Y L m g x))
       λ nz. as-walked Y L m g (λ a. x) x nz (λ o. set-at Y m q o) (λ o f. row-set (Y .places) f (m .items) q o)
       λ o k. step-set Y L m g q nz h k

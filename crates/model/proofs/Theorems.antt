@@ -5,6 +5,7 @@ use Rattle.model.proofs.Demands as demands
 use Rattle.model.proofs.Never as never
 use Rattle.model.proofs.FreshAnywhere as anywhere
 use Rattle.model.proofs.NoTen as ten
+use Rattle.model.proofs.Late as late
 use Rattle.model.proofs.Linked as linked
 use Rattle.model.proofs.Paper as paper
 use Rattle.model.proofs.AsWritten as written
@@ -23,6 +24,8 @@ owed =
       fresh-anywhere = anywhere.gate-fresh-anywhere;
       never-ten = ten.never-ten four;
       well-story = demands.well-story four;
+      late-refused = late.late-refused four;
+      stamps-rise = late.stamps-rise four;
       leaves-lent = linked.leaves-lent four;
       cuts-lent = linked.cuts-lent four;
       fresh-lent = linked.fresh-lent four;

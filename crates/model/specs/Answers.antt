@@ -1,4 +1,4 @@
--- What a call can answer, the paper's number and values of each answer, and document 01's refusal numbers. Assumes nothing.
+-- What a call can answer, the paper's number and values of each answer, and the refusal numbers. Assumes nothing.
 use Prim.Native.Nat.{ℕ}
 use mathlib.Core.Path.{_≡_}
 use mathlib.Core.Bool.{Bool, true, false}
@@ -53,9 +53,9 @@ begins k (v ∷ vs) = eqb v k
 abbrev pub is : ℕ → Answer → Bool
 is k a = begins k (paper a .values)
 
--- document 01's refusal numbers
+-- document 01's refusal numbers, and the one of wish 1
 abbrev pub refusal-numbers : List ℕ
-refusal-numbers = 1 ∷ 2 ∷ 3 ∷ 4 ∷ 5 ∷ 6 ∷ 7 ∷ 8 ∷ 9 ∷ 10 ∷ []
+refusal-numbers = 1 ∷ 2 ∷ 3 ∷ 4 ∷ 5 ∷ 6 ∷ 7 ∷ 8 ∷ 9 ∷ 10 ∷ 11 ∷ []
 
 abbrev pub Listed : ℕ → Type 0
 Listed n = one-of n refusal-numbers ≡ true

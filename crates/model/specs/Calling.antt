@@ -6,8 +6,8 @@ use Rattle.model.specs.Answers.{Answer, victim-in}
 use Rattle.model.specs.declared.Grant.{Grant}
 
 -- what a set takes, in the order of a line
-abbrev pub grant : ℕ → ℕ → ℕ → Bool → Grant
-grant x v now s = record { animal = x; permission = v; minute = now; standing = s }
+abbrev pub grant : ℕ → ℕ → ℕ → ℕ → Bool → Grant
+grant x v issued now s = record { animal = x; permission = v; issued = issued; minute = now; standing = s }
 
 pub data Call : Type 0 where
   read : (animal limit now : ℕ) → Call

@@ -2,7 +2,7 @@
 use Prim.Native.Nat.{ℕ, _+_, _-_, _*_, _/_, _^_, _<_, _≤_, _%_}
 use mathlib.Core.Path.{_≡_}
 use mathlib.Core.Logic.{_≢_, _↔_, _⊎_}
-use mathlib.Core.Bool.{true}
+use mathlib.Core.Bool.{true, false}
 use mathlib.Core.Option.{none, some}
 use mathlib.Core.List.{List, [], _∷_, List·Memᴰ as In}
 use lib.ListN.{length, getD, set}
@@ -14,7 +14,7 @@ use Rattle.model.specs.Calling.{Call, read, serve, set-animal, Event, ma
 use Rattle.model.specs.Answers.{Answer, refused, fresh, stored, started, Listed}
 use Rattle.model.specs.Age.{no-minute, standing-mark}
 use Rattle.model.specs.Calls.{hits}
-use Rattle.model.specs.Row.{walk-to, row-event, plain, beyond}
+use Rattle.model.specs.Row.{walk-to, row-event, row-late, plain, beyond}
 use Rattle.model.specs.declared.Grant.{Grant}
 use Rattle.model.specs.AnyTable.{Table, leaves, cut-at, left, beside}
 
@@ -51,6 +51,7 @@ pub record GoodInputs (g : Grant) : Type 0 where
   pub typed : g .permission < 2 ^ 32
   pub real : g .animal ≢ 0
   pub timely : g .minute ≢ no-minute
+  pub issued : g .issued ≤ g .minute
 
 -- what demand 3 says of the slots T of a shape and of an animal x
 module _ (Y : Shape) (T : List ℕ) (x : ℕ) where
@@ -165,10 +166,10 @@ module _ (W : Ways) where
       → SeenBy T (table T s) (leaves T (table T s) (did c)) (cut-at T k (table T s) (did c)) (about c (T .answer (table T s) (did c)))
       x limit now
 
-  -- a set of an animal that the row holds reports 0 visits and 0 moves
+  -- a set of an animal that the row holds, if its list isn't late, reports 0 visits and 0 moves
   abbrev pub HeldCounts : Table → Type 0
   HeldCounts T = (s : Story) (g : Grant) → GoodInputs g → (p : ℕ) → walk-to (row T s) (g .animal) (places s) 0 ≡ some p
-      → T .answer (table T s) (did (set-animal g)) ≡ stored 0 0
+      → row-late (places s) (stamp (row T s) p) g ≡ false → T .answer (table T s) (did (set-animal g)) ≡ stored 0 0
 
   pub record Demand2 (T : Table) : Type 0 where
     pub starts : (m : Mem) → right-lengths W m ≡ true → T .answer m make-fresh ≡ started

@@ -11,11 +11,13 @@ use Rattle.model.specs.Visits.{sum-of-powers}
 use Rattle.model.specs.Answers.{Answer, paper, refused}
 use Rattle.model.specs.Calling.{Call, did, evict, make-fresh}
 use Rattle.model.specs.Lent.{after-fresh, lent-after, lent-call, lent-cut}
+use Rattle.model.specs.Late.{LateRefused, StampsRise}
 use Rattle.model.specs.WellFormed.{WellFormed}
 use Rattle.model.specs.AnyTable.{cut-at, leaves}
 use Rattle.model.specs.Demands.{Demand1, Demand2, Demand3, FreshAnywhere, NeverLost, Story, shape-in, table}
 use Rattle.model.specs.Ours.{gate, ours}
-use Rattle.model.specs.Examples.{AllHold, cuts, edges, examples, one-hurt, refusals, row-edges, row-examples, turns, two-tags}
+use Rattle.model.specs.declared.Grant.{Grant}
+use Rattle.model.specs.Examples.{AllHold, cuts, edges, examples, late-lists, one-hurt, refusals, row-edges, row-examples, turns, two-tags}
 
 pub record Owed : Type 0 where
   -- the order's three demands, of the gate's table; and of wish 13's
@@ -31,6 +33,9 @@ pub record Owed : Type 0 where
   pub fresh-anywhere : FreshAnywhere gate
   pub never-ten : (m : Mem) (hand : ℕ) → lent-call four m (evict hand) .answer ≢ refused 10
   pub well-story : (s : Story four) → WellFormed (shape-in four s) (table four gate s)
+  -- wish 1, beyond its words: when 11 is given, and that no list lowers a stamp, on any memory
+  pub late-refused : (m : Mem) (g : Grant) → LateRefused four m g
+  pub stamps-rise : (m : Mem) (g : Grant) → StampsRise four m g
   -- what the code's contracts cite is what the demands speak of
   pub leaves-lent : (m : Mem) (c : Call) → leaves gate m (did c) ≡ lent-after four m c
   pub cuts-lent : (m : Mem) (c : Call) (k : ℕ) → cut-at gate k m (did c) ≡ lent-cut four k m c
@@ -38,7 +43,7 @@ pub record Owed : Type 0 where
   pub cut-whole : (m : Mem) (c : Call) (k : ℕ) → length (stores (lent-call four m c .blocks)) ≤ k → lent-cut four k m c ≡ lent-after four m c
   pub paper-injective : (a b : Answer) → paper a ≡ paper b → a ≡ b
   -- the definitions say what the document's examples say, and what its rules say at their edges and at every cut
-  pub all-hold : AllHold examples × AllHold refusals × AllHold turns × AllHold edges × AllHold cuts × AllHold row-examples × AllHold row-edges
+  pub all-hold : AllHold examples × AllHold refusals × AllHold turns × AllHold edges × AllHold cuts × AllHold late-lists × AllHold row-examples × AllHold row-edges
   pub not-legal : ¬ Legal (shape-of four two-tags .layout) (two-tags .slots) (record { from = 2; to = 8 })
   pub not-well : ¬ WellFormed (shape-of four (one-hurt 3)) (one-hurt 3)
   pub most-visits-are : (2 * sum-of-powers 4 4 ≡ 682) × (2 * sum-of-powers 8 3 ≡ 1170)

@@ -105,9 +105,17 @@ module _ (M : ℕ) where
   row-find none = absent
   row-find (some p) = at-place p
 
-  -- the stamp of a set: standing, or the minute of arrival
+  -- refusal 3 of a set: now is 2^64 - 1, or issued later than now
+  abbrev pub row-bad-grant : Grant → Bool
+  row-bad-grant g = choose (eqb (g .minute) (2 ^ 64 - 1)) true (ltb (g .minute) (g .issued))
+
+  -- the stamp of a set: standing, or the minute of issue
   abbrev pub row-stamp : Grant → ℕ
-  row-stamp g = choose (g .standing) (2 ^ 64 - 1) (g .minute)
+  row-stamp g = choose (g .standing) (2 ^ 64 - 1) (g .issued)
+
+  -- a late list: a standing one is never late, nor is any for a standing entry; else the held stamp s is later
+  abbrev pub row-late : ℕ → Grant → Bool
+  row-late s g = choose (g .standing) false (choose (eqb s (2 ^ 64 - 1)) false (ltb (g .issued) s))
 
   -- set: a row can't know whether the table has room for a new entry, so it is told: `told` is 6 if it has none
   abbrev pub row-new : ℕ → List ℕ → Grant → Option ℕ → Row
@@ -118,7 +126,8 @@ module _ (M : ℕ) where
 
   abbrev pub row-set : ℕ → List ℕ → Grant → Option ℕ → Row
   row-set told l g none = row-new told l g (walk-to l 0 M 0)
-  row-set told l g (some p) = record { answer = stored 0 0; words = renew l p (g .permission) (row-stamp g) }
+  row-set told l g (some p) =
+      choose (row-late (stamp l p) g) (stay l (refused 11)) (record { answer = stored 0 0; words = renew l p (g .permission) (row-stamp g) })
 
   abbrev pub row-delete : List ℕ → Option ℕ → Row
   row-delete l none = stay l (refused 7)
@@ -139,7 +148,7 @@ module _ (M : ℕ) where
   row-call told l (serve x limit now) = row-asked l x (row-bad-time limit now) (row-serve l limit now (walk-to l x M 0))
   row-call told l (find x) = row-asked l x false (stay l (row-find (walk-to l x M 0)))
   row-call told l (set-animal g) =
-      row-asked l (g .animal) (eqb (g .minute) (2 ^ 64 - 1)) (row-set told l g (walk-to l (g .animal) M 0))
+      row-asked l (g .animal) (row-bad-grant g) (row-set told l g (walk-to l (g .animal) M 0))
   row-call told l (delete x) = row-asked l x false (row-delete l (walk-to l x M 0))
   row-call told l (evict hand) =
       choose (leb M hand) (stay l (refused 1))

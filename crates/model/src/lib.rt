@@ -1,9 +1,10 @@
 // The types that every crate shares: what each call answers. The meaning of document 01 stands in specs/, the proofs in proofs/.
 
-// What a set takes.
+// What a set takes: the minute of issue and the minute of the call beside the animal and its permission.
 pub struct Grant {
     pub animal: u64,
     pub permission: u32,
+    pub issued: u64,
     pub minute: u64,
     pub standing: bool,
 }

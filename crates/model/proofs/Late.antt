@@ -1,0 +1,144 @@
+-- Wish 1: when a list is late, and what comes of it. Assumes nothing.
+use Prim.Native.Nat.{ℕ, _+_, _*_, _<_, _≤_}
+use native.Mathlib.Omega.{arith}
+use native.Mathlib.Decide.{decLt}
+use mathlib.Core.Path.{_≡_, refl, sym, ap, _∙_}
+use mathlib.Core.Logic.{_≢_, _⊎_, inl, inr, ⊎-elim, dite}
+use mathlib.Core.Bool.{Bool, true, false, not, _&&_, _||_}
+use mathlib.Core.Option.{Option, none, some}
+use mathlib.Core.List.{List}
+use lib.ListN.{length, set, length-set, List·getD-eq-default}
+use lib.Seq.{getD-set-same, getD-set-other}
+use lib.Dec.{eqb, ltb}
+use borrow.Author.Tests.{eqb-false, le-ltb, lt-ltb, ltb-false, ltb-true, ne-eqb}
+use Rattle.model.specs.Choice.{choose}
+use Rattle.model.specs.Memory.{Mem, stamp}
+use Rattle.model.specs.Shape.{Shape, Ways, counter-of, right-lengths, shape-of}
+use Rattle.model.specs.Calling.{set-animal}
+use Rattle.model.specs.Answers.{refused, stored}
+use Rattle.model.specs.Age.{bad-grant, late, no-minute, stamp-of, standing-mark}
+use Rattle.model.specs.Calls.{Outcome, asked, busy, enter-at, entered, held, home-damage, refuse, search-damage, set-at, stopped, updated, vacant-place, visited}
+use Rattle.model.specs.Demands.{GoodInputs}
+use Rattle.model.specs.Late.{Dated, ItsTurn, LateRefused, StampsRise}
+use Rattle.model.specs.Lent.{lent-after, lent-call}
+use Rattle.model.specs.Row.{renew}
+use Rattle.model.specs.declared.Grant.{Grant}
+use Rattle.model.proofs.ListLaws.{bool, true-false}
+
+-- good minutes pass 3
+pub good-minutes : (g : Grant) → g .minute ≢ no-minute → g .issued ≤ g .minute → bad-grant g ≡ false
+good-minutes g t i = rw (ne-eqb (g .minute) no-minute t, le-ltb (g .minute) (g .issued) i)
+
+pub good-grant : {g : Grant} → GoodInputs g → bad-grant g ≡ false
+good-grant {g} good = good-minutes g (good .timely) (good .issued)
+
+-- and only they do
+minutes-good : (g : Grant) → bad-grant g ≡ false → (g .minute ≢ no-minute) × (g .issued ≤ g .minute)
+minutes-good g e =
+    let n = neither (eqb (g .minute) no-minute) (ltb (g .minute) (g .issued)) e in
+    (eqb-false (g .minute) no-minute (n .0), ltb-false (g .minute) (g .issued) (n .1))
+  where
+    neither : (b c : Bool) → (b || c) ≡ false → (b ≡ false) × (c ≡ false)
+    neither true c e = true-false {b = true} refl e
+    neither false c e = (refl, e)
+
+module _ (s : ℕ) (g : Grant) where
+  -- a late list is what it is said to be
+  pub late-only : late s g ≡ true → (g .issued < s) × (s ≢ standing-mark) × (g .standing ≡ false)
+  unfolding late
+  late-only e = let t = three (ltb (g .issued) s) (eqb s standing-mark) (g .standing) e in (ltb-true (g .issued) s (t .0), eqb-false s standing-mark (t .1), t .2)
+    where
+      three : (a b c : Bool) → (a && (not b && not c)) ≡ true → (a ≡ true) × (b ≡ false) × (c ≡ false)
+      three true false false e = (refl, refl, refl)
+      three true false true e = true-false {b = true} refl (sym e)
+      three true true c e = true-false {b = true} refl (sym e)
+      three false b c e = true-false {b = true} refl (sym e)
+
+  pub late-if : g .issued < s → s ≢ standing-mark → g .standing ≡ false → late s g ≡ true
+  unfolding late
+  late-if l n d = rw (lt-ltb (g .issued) s l, ne-eqb s standing-mark n, d)
+
+module _ (W : Ways) (m : Mem) (g : Grant) where
+  abbrev Y : Shape
+  Y = shape-of W m
+
+  abbrev x : ℕ
+  x = g .animal
+
+  abbrev rest : Outcome
+  rest = set-at Y m g (held Y m x)
+
+  -- an outcome of this set: one of the early refusals, or what is held decides
+  abbrev Sorted : Outcome → Type 0
+  Sorted o = ((k : ℕ) × (k < 9) × (o ≡ refuse k)) ⊎ (ItsTurn W m g × (o ≡ rest))
+
+  early : (k : ℕ) → k < 9 → Sorted (refuse k)
+  early k h = inl (k, h, refl)
+
+  sorted : Sorted (lent-call W m (set-animal g))
+  sorted =
+      bool (λ b. Sorted (choose b (asked Y m x (bad-grant g) rest) (refuse 1))) (right-lengths W m)
+      (λ l. bool (λ b. Sorted (choose b (refuse 2) (choose (bad-grant g) (refuse 3) (choose (busy Y m x) (refuse 8) (choose (home-damage Y m x) (refuse 4) rest)))))
+      (eqb x 0) (λ z. early 2 (omega arith))
+      λ r. bool (λ b. Sorted (choose b (refuse 3) (choose (busy Y m x) (refuse 8) (choose (home-damage Y m x) (refuse 4) rest)))) (bad-grant g) (λ z. early 3 (omega arith))
+      λ t. bool (λ b. Sorted (choose b (refuse 8) (choose (home-damage Y m x) (refuse 4) rest))) (busy Y m x) (λ z. early 8 (omega arith))
+      λ c. bool (λ b. Sorted (choose b (refuse 4) rest)) (home-damage Y m x) (λ z. early 4 (omega arith))
+      λ d. let q = minutes-good g t in
+      inr (record { lengths = l; real = eqb-false x 0 r; timely = q .0; issued = q .1; calm = c; sound = d }, refl))
+      λ z. early 1 (omega arith)
+
+  -- a set whose answer is no early refusal
+  turned : ((k : ℕ) → k < 9 → lent-call W m (set-animal g) .answer ≢ refused k) → ItsTurn W m g × (lent-call W m (set-animal g) ≡ rest)
+  turned n = ⊎-elim (λ (k, h, e). absurd (n k h (ap (λ (o : Outcome). o .answer) e))) (λ t. t) sorted
+
+  in-turn : ItsTurn W m g → lent-call W m (set-animal g) ≡ rest
+  in-turn t = rw (t .lengths, ne-eqb x 0 (t .real), good-minutes g (t .timely) (t .issued), t .calm, t .sound)
+
+  -- 11 is given to a held animal only
+  new-other : (o : Option ℕ) → enter-at Y m g o .answer ≢ refused 11
+  new-other none e = let z : _≡_ {A = ℕ} 5 11 = cc in absurd (omega arith)
+  new-other (some p) e = go (search-damage Y m x) (eqb (stopped Y m x) (length (visited Y m x))) e
+    where
+      go : (b c : Bool) → choose b (refuse 4) (choose c (refuse 6) (entered Y m g p)) .answer ≢ refused 11
+      go true c e = let z : _≡_ {A = ℕ} 4 11 = cc in absurd (omega arith)
+      go false true e = let z : _≡_ {A = ℕ} 6 11 = cc in absurd (omega arith)
+      go false false e = let z : _≡_ {A = ℕ} 0 1 = cc in absurd (omega arith)
+
+  held-late : (o : Option ℕ) → held Y m x ≡ o → set-at Y m g o .answer ≡ refused 11 → (p : ℕ) × Dated W m g p × (g .issued < stamp (m .items) p)
+  held-late none h e = absurd (new-other (vacant-place (Y .places) (m .items)) e)
+  held-late (some p) h e =
+      bool (λ b. late (stamp (m .items) p) g ≡ b → choose b (refuse 11) (updated (counter-of Y x) p g) .answer ≡ refused 11
+      → (p : ℕ) × Dated W m g p × (g .issued < stamp (m .items) p)) (late (stamp (m .items) p) g)
+      (λ t q e. let k = late-only (stamp (m .items) p) g q in (p, record { held-at = h; entry = k .1; list = k .2 }, k .0))
+      (λ t q e. let z : _≡_ {A = ℕ} 0 1 = cc in absurd (omega arith)) refl e
+
+  pub late-refused : LateRefused W m g
+  late-refused = (
+    λ e. let t = turned (λ k h f. let z : 11 ≡ k = cc in absurd (omega arith)) in
+        (t .0, held-late (held Y m x) refl (sym (ap (λ (o : Outcome). o .answer) (t .1)) ∙ e)),
+    λ (t, (p, d, l)). ap (λ (o : Outcome). o .answer) (in-turn t) ∙ rw (d .held-at, late-if (stamp (m .items) p) g l (d .entry) (d .list)),
+  )
+
+  -- the stamp of a place after an update
+  renewed : (l : List ℕ) (p b c : ℕ) → (stamp (renew l p b c) p ≡ c) ⊎ (stamp l p ≡ 0)
+  renewed l p b c =
+      dite (decLt (4 * p + 2) (length l))
+      (λ h. inl (getD-set-other (set (set l (4 * p + 1) b) (4 * p + 2) c) (4 * p + 3) (4 * p + 2) 1 0 (λ e. absurd (omega arith))
+      ∙ getD-set-same (set l (4 * p + 1) b) (4 * p + 2) c 0 (rw length-set h)))
+      λ h. inr (List·getD-eq-default l 0 (omega arith))
+
+  pub stamps-rise : StampsRise W m g
+  stamps-rise p v n d e =
+      let s = stamp (m .items) p in
+      let t = turned (λ k h f. let z : _≡_ {A = ℕ} 0 1 = cc in absurd (omega arith)) in
+      bool (λ b. late s g ≡ b → lent-call W m (set-animal g) ≡ choose b (refuse 11) (updated (counter-of Y x) p g)
+      → s ≤ stamp (lent-after W m (set-animal g) .items) p) (late s g)
+      (λ u q f. let r : stored v n ≡ refused 11 = sym e ∙ ap (λ (o : Outcome). o .answer) f in let z : _≡_ {A = ℕ} 0 1 = cc in absurd (omega arith))
+      (λ u q f. rw f (⊎-elim (λ r. rw r (in-order p d q)) (λ z. omega arith) (renewed (m .items) p (g .permission) (stamp-of g)))) refl
+      (t .1 ∙ ap (set-at Y m g) (d .held-at))
+    where
+      -- a list that is not late is issued at the held stamp or after it
+      in-order : (p : ℕ) → Dated W m g p → late (stamp (m .items) p) g ≡ false → stamp (m .items) p ≤ stamp-of g
+      in-order p d q =
+          dite (decLt (g .issued) (stamp (m .items) p)) (λ l. true-false (late-if (stamp (m .items) p) g l (d .entry) (d .list)) q)
+          λ l. rw (d .list) (omega arith)
