@@ -1,6 +1,6 @@
-// The age of a permission: what is said of a stamp at a minute, under a limit; and the minute that a set brings.
+// The age of a permission: what is said of a stamp at a minute, under a limit; and the minutes that a set brings.
 ghost use mathlib.Core.Path.{_≡_};
-ghost use Rattle.model.specs.Age.{verdict, bad-time, bad-grant, stamp-of};
+ghost use Rattle.model.specs.Age.{verdict, bad-time, bad-grant, late, stamp-of};
 ghost use Rattle.model.specs.Answers.{says-fresh};
 ghost use Rattle.model.specs.Said.{said-reading};
 use model::Grant;
@@ -53,19 +53,26 @@ pub fn is_fresh(told: Reading) -> bool
     }
 }
 
-// The minute of a set is out of range.
+// The minutes of a set are out of range: now is no minute, or the minute of issue is later.
 pub fn is_bad_grant(g: Grant) -> bool
     ensures { λ r. ⌜ r ≡ bad-grant g ⌝ }
 {
-    g.minute == 18446744073709551615
+    (g.minute == 18446744073709551615) | (g.minute < g.issued)
 }
 
-// The stamp of a set: the minute of arrival, or the standing mark.
+// The list is late for an animal that is held with that stamp: the stamp is later, and neither is standing.
+pub fn is_late(stamp: u64, g: Grant) -> bool
+    ensures { λ r. ⌜ r ≡ late stamp g ⌝ }
+{
+    (g.issued < stamp) & ((stamp != 18446744073709551615) & !g.standing)
+}
+
+// The stamp of a set: the minute of issue, or the standing mark.
 pub fn stamp_for(g: Grant) -> u64
     ensures { λ r. ⌜ r ≡ stamp-of g ⌝ }
 {
     if g.standing {
         return 18446744073709551615;
     }
-    g.minute
+    g.issued
 }

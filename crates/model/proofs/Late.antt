@@ -45,7 +45,6 @@ minutes-good g e =
 module _ (s : ℕ) (g : Grant) where
   -- a late list is what it is said to be
   pub late-only : late s g ≡ true → (g .issued < s) × (s ≢ standing-mark) × (g .standing ≡ false)
-  unfolding late
   late-only e = let t = three (ltb (g .issued) s) (eqb s standing-mark) (g .standing) e in (ltb-true (g .issued) s (t .0), eqb-false s standing-mark (t .1), t .2)
     where
       three : (a b c : Bool) → (a && (not b && not c)) ≡ true → (a ≡ true) × (b ≡ false) × (c ≡ false)
@@ -55,7 +54,6 @@ module _ (s : ℕ) (g : Grant) where
       three false b c e = true-false {b = true} refl (sym e)
 
   pub late-if : g .issued < s → s ≢ standing-mark → g .standing ≡ false → late s g ≡ true
-  unfolding late
   late-if l n d = rw (lt-ltb (g .issued) s l, ne-eqb s standing-mark n, d)
 
 module _ (W : Ways) (m : Mem) (g : Grant) where

@@ -57,7 +57,6 @@ pub grant-is : (M : ℕ) (g : Grant) → bad-grant g ≡ row-bad-grant M g
 grant-is M g = or-is (eqb (g .minute) no-minute) (ltb (g .minute) (g .issued))
 
 pub late-is : (M s : ℕ) (g : Grant) → late s g ≡ row-late M s g
-unfolding late
 late-is M s g = go (ltb (g .issued) s) (eqb s standing-mark) (g .standing)
   where
     go : (a b c : Bool) → (a && (not b && not c)) ≡ choose c false (choose b false a)

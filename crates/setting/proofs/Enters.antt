@@ -1,22 +1,24 @@
 -- Set's do: the moves and the new entry, or the update; a law a way out. Assumes nothing.
 use Prim.Native.Nat.{ℕ, _+_, _*_, _%_, _/_, _^_, _<_}
 use native.Mathlib.Omega.{arith}
-use mathlib.Core.Path.{_≡_, refl, ap}
+use mathlib.Core.Path.{_≡_, refl, sym, ap, _∙_}
+use mathlib.Core.Bool.{Bool, true, false}
 use mathlib.Core.List.{List, [], _∷_, _++_, append-nil}
-use lib.ListN.{length, take}
+use lib.ListN.{length, getD, take}
+use Rattle.model.specs.Choice.{choose}
 use Rattle.model.specs.Memory.{Mem, mem, place}
 use Rattle.model.specs.Shape.{Ways, shape, shape-of}
 use Rattle.model.specs.Stores.{enter, stores, stores-of, update}
 use Rattle.model.specs.Moves.{as-moves}
-use Rattle.model.specs.Answers.{refused, stored}
-use Rattle.model.specs.Age.{stamp-of}
-use Rattle.model.specs.Calls.{move-blocks, updated}
+use Rattle.model.specs.Answers.{Answer, refused, stored}
+use Rattle.model.specs.Age.{late, stamp-of}
+use Rattle.model.specs.Calls.{move-blocks, refuse, set-held, updated}
 use Rattle.model.specs.Promised.{Does}
 use Rattle.model.proofs.Hash.{size-most}
 use Rattle.moves.specs.Moves.{MovesIn}
 use Rattle.blocks.specs.Made.{Made}
 use Rattle.blocks.proofs.Laws.{made-append}
-use Rattle.blocks.proofs.Budget.{does-made, does-one, does-refuse, stores-append}
+use Rattle.blocks.proofs.Budget.{does-as, does-made, does-one, does-refuse, stores-append}
 use Rattle.setting.specs.Entering.{Enterable, entering, entering-by}
 use Rattle.model.specs.declared.Grant.{Grant}
 use Rattle.hashing.specs.declared.Homes.{Homes}
@@ -65,3 +67,15 @@ pub update-made : (c w : ℕ) (g : Grant) {t k l : ℕ} {n n′ i i′ : List �
 unfolding place
 update-made c w g {l = l} e d s =
     does-one {l = l} (stored 0 0) (update c (w % 65536) (g .permission) (stamp-of g)) refl (rw e at (d s))
+
+-- a set of a held animal: its list is late, or it is not
+module _ (c w : ℕ) (g : Grant) (i : List ℕ) {t : ℕ} (et : t ≡ getD i (4 * (w % 65536) + 2) 0) {b : Bool} (eb : b ≡ late t g) where
+  pub held-late : {k : ℕ} {n : List ℕ} → b ≡ true → (s : List ℕ) → Does (set-held i c (place w) g) k (mem s n i) (mem s n i) (refused 11)
+  unfolding place
+  held-late q s = does-refuse (ap (λ b. choose b (refuse 11) (updated c (w % 65536) g)) (rw et at (sym eb ∙ q)))
+
+  pub held-timely : {k : ℕ} {n n′ i′ : List ℕ} {a : Answer} → b ≡ false
+      → ((s : List ℕ) → Does (updated c (place w) g) k (mem s n i) (mem s n′ i′) a)
+      → (s : List ℕ) → Does (set-held i c (place w) g) k (mem s n i) (mem s n′ i′) a
+  unfolding place
+  held-timely q d s = does-as (sym (ap (λ b. choose b (refuse 11) (updated c (w % 65536) g)) (rw et at (sym eb ∙ q)))) (d s)

@@ -8,15 +8,15 @@ use mathlib.Core.Option.{Option, none, some}
 use mathlib.Core.List.{List, [], _∷_}
 use lib.ListN.{length, length-append}
 use lib.Dec.{eqb}
-use Rattle.model.specs.Memory.{Mem, mem, place}
+use Rattle.model.specs.Memory.{Mem, mem, place, stamp}
 use Rattle.model.specs.Shape.{Shape, Ways, pair, right-lengths, shape-of}
 use Rattle.model.specs.Stores.{stores}
 use Rattle.model.specs.Moves.{Move, moved}
 use Rattle.model.specs.Visits.{free-slot, stop-bucket}
 use Rattle.model.specs.Answers.{Answer, refused}
 use Rattle.model.specs.Calling.{set-animal}
-use Rattle.model.specs.Age.{bad-grant}
-use Rattle.model.specs.Calls.{Outcome, enter-at, enter-block, entered, final-slot, held, move-blocks, moves-found, search-damage, set-at, stopped, updated, vacant-place, visited}
+use Rattle.model.specs.Age.{bad-grant, late}
+use Rattle.model.specs.Calls.{Outcome, enter-at, enter-block, entered, final-slot, held, move-blocks, moves-found, search-damage, set-at, set-held, stopped, vacant-place, visited}
 use Rattle.model.specs.Promised.{CutAs, Does, WholeAs}
 use Rattle.model.proofs.Search.{length-climb}
 use Rattle.blocks.proofs.Budget.{Few, did-all, does-as, does-refuse, few-asked, few-or, few-refuse, stores-append}
@@ -49,12 +49,12 @@ module _ (W : Ways) (m : Mem) (g : Grant) {b : Bool} (eb : b ≡ bad-grant g) {n
     set-new q d =
         let s = look-lacks W m (g .animal) (bad-grant g) rest passed l q in does-as (sym (s .0 ∙ ap (set-at (shape-of W m) m g) (s .1))) d
 
-    pub set-update : {w : ℕ} → r .look ≡ look.At w → {k : ℕ} {c i : List ℕ} {a : Answer}
-        → ((s : List ℕ) → Does (updated (r .homes .counter) (place w) g) k (mem s (m .counters) (m .items)) (mem s c i) a)
+    pub set-at-held : {w : ℕ} → r .look ≡ look.At w → {k : ℕ} {c i : List ℕ} {a : Answer}
+        → ((s : List ℕ) → Does (set-held (m .items) (r .homes .counter) (place w) g) k (mem s (m .counters) (m .items)) (mem s c i) a)
         → CutAs W m (set-animal g) k (mem (m .slots) c i) a
-    set-update {w} q d =
+    set-at-held {w} q d =
         let s = look-holds W m (g .animal) (bad-grant g) rest passed l q in
-        does-as (sym (s .0 ∙ ap (set-at (shape-of W m) m g) (s .1) ∙ ap (λ c. updated c (place w) g) (sym (l .homes-are .counter-is)))) (d (m .slots))
+        does-as (sym (s .0 ∙ ap (set-at (shape-of W m) m g) (s .1) ∙ ap (λ c. set-held (m .items) c (place w) g) (sym (l .homes-are .counter-is)))) (d (m .slots))
 
 -- four stores a move, at most as many moves as the reach, and the seven of the new entry
 move-stores : (Y : Shape) (T : List ℕ) (vs : List Move) → length (stores (move-blocks Y T vs)) ≡ 4 * length vs
@@ -88,7 +88,7 @@ module _ (W : Ways) (m : Mem) (g : Grant) where
       few (some p) =
           few-or (search-damage Y m (g .animal)) (few-refuse 4)
           (few-or (eqb (stopped Y m (g .animal)) (length (visited Y m (g .animal)))) (few-refuse 6) (few-entered p))
-  few-set-at (some p) = record { few = omega arith }
+  few-set-at (some p) = few-or (late (stamp (m .items) p) g) (few-refuse 11) (record { few = omega arith })
 
   -- behind the last store the cut form is the whole call
   whole : 4 * W .reach + 7 ≤ 18446744073709551615 → {m′ : Mem} {a : Answer} → CutAs W m (set-animal g) 18446744073709551615 m′ a → WholeAs W m (set-animal g) m′ a
@@ -106,7 +106,7 @@ module _ (W : Ways) (few : 4 * W .reach + 7 ≤ 18446744073709551615) (m : Mem) 
     pub whole-new : r .look ≡ look.Absent → {m′ : Mem} {a : Answer} → Does (entering-new W m g) 18446744073709551615 m m′ a → WholeAs W m (set-animal g) m′ a
     whole-new q d = whole W m g few (set-new W m g eb e z l q d)
 
-    pub whole-update : {w : ℕ} → r .look ≡ look.At w → {c i : List ℕ} {a : Answer}
-        → ((s : List ℕ) → Does (updated (r .homes .counter) (place w) g) 18446744073709551615 (mem s (m .counters) (m .items)) (mem s c i) a)
+    pub whole-held : {w : ℕ} → r .look ≡ look.At w → {c i : List ℕ} {a : Answer}
+        → ((s : List ℕ) → Does (set-held (m .items) (r .homes .counter) (place w) g) 18446744073709551615 (mem s (m .counters) (m .items)) (mem s c i) a)
         → WholeAs W m (set-animal g) (mem (m .slots) c i) a
-    whole-update q d = whole W m g few (set-update W m g eb e z l q d)
+    whole-held q d = whole W m g few (set-at-held W m g eb e z l q d)

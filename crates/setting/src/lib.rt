@@ -6,7 +6,7 @@ ghost use Prim.Native.Nat.{ℕ, _^_};
 ghost use Rattle.model.specs.Memory.{mem, place};
 ghost use Rattle.model.specs.Shape.{Ways, four, right-lengths};
 ghost use Rattle.model.specs.Calling.{set-animal};
-ghost use Rattle.model.specs.Calls.{updated};
+ghost use Rattle.model.specs.Calls.{set-held, updated};
 ghost use Rattle.model.specs.Said.{said-setting};
 ghost use Rattle.model.specs.Promised.{CutAs, Does, WholeAs};
 ghost use Rattle.looking.specs.Look.{LooksUp};
@@ -165,6 +165,26 @@ fn update_held(
     }
 }
 
+// Set of a held animal: a late list is refused, and its place stays as it is.
+fn set_held(
+    counters: &mut [u32],
+    items: &mut [u64],
+    homes: Homes,
+    w: u32,
+    g: Grant,
+    k: u64,
+) -> Setting
+    ensures { λ r. ⌜ ((s : List ℕ) → Does (set-held (now (items .entry)) (homes .counter) (place w) g) k
+        (mem s (now (counters .entry)) (now (items .entry))) (mem s (now (counters .exit)) (now (items .exit))) (said-setting r)) ⌝ }
+{
+    let at = 4 * ((w % 65536) as usize);
+    let stamp = runs::get64(items, at + 2);
+    if ageing::is_late(stamp, g) {
+        return Setting::Refused(11);
+    }
+    update_held(counters, items, homes, w, g, k)
+}
+
 // Set, of which only the first k stores are made.
 pub fn set_cut(
     slots: &mut [u32],
@@ -187,7 +207,7 @@ pub fn set_cut(
     match look {
         Look::Refused(n) => Setting::Refused(n),
         Look::Absent => enter_new(slots, counters, items, g, homes, k),
-        Look::At(w) => update_held(counters, items, homes, w, g, k),
+        Look::At(w) => set_held(counters, items, homes, w, g, k),
     }
 }
 
@@ -259,6 +279,6 @@ pub fn set(slots: &mut [u32], counters: &mut [u32], items: &mut [u64], g: Grant)
     match look {
         Look::Refused(n) => Setting::Refused(n),
         Look::Absent => enter_apart(slots, counters, items, g, homes, k),
-        Look::At(w) => update_held(counters, items, homes, w, g, k),
+        Look::At(w) => set_held(counters, items, homes, w, g, k),
     }
 }

@@ -2,7 +2,7 @@
 use borrow.Author.Needs.{needs}
 use Rattle.setting.proofs.set_cut.Statement.{statement}
 use Rattle.setting.proofs.set_cut.Tie as tie
-use Rattle.setting.proofs.Setting.{set-early, set-homed, set-refused, set-new, set-update}
+use Rattle.setting.proofs.Setting.{set-early, set-homed, set-refused, set-new, set-at-held}
 use Rattle.looking.proofs.Early.{passed-lengths}
 
 pub set-cut-spec : {M : Type 1} → statement M
@@ -12,4 +12,4 @@ set-cut-spec =
     (λ c κs. search needs) (λ c κs. search needs) (λ c. search set-early) (λ c κs. search passed-lengths) (λ c. search needs) (λ c. search needs)
     (λ c κs. search set-homed) (λ c. search needs) (λ c κs. search needs) (λ c. search needs) (λ c. search needs) (λ c. search needs)
     (λ c. search set-refused) (λ c. search needs) (λ c. search needs) (λ c. search needs) (λ c. search set-new) (λ c. search needs) (λ c. search needs)
-    (λ c. search needs) (λ c. search set-update))
+    (λ c. search needs) (λ c. search set-at-held))
