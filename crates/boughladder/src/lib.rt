@@ -91,15 +91,17 @@ pub extern "C" fn boughladder_set(
     items: &mut [u64],
     animal: u64,
     permission: u32,
+    issued: u64,
     minute: u64,
     standing: u32,
 ) -> BoughladderSetting
     ensures { λ r. ⌜ WholeIn four setting-clothes (mem (now (slots .entry)) (now (counters .entry)) (now (items .entry)))
-        (set-animal (grant animal permission minute (not (eqb standing 0)))) (mem (now (slots .exit)) (now (counters .exit)) (now (items .exit))) r ⌝ }
+        (set-animal (grant animal permission issued minute (not (eqb standing 0)))) (mem (now (slots .exit)) (now (counters .exit)) (now (items .exit))) r ⌝ }
 {
     let granted = Grant {
         animal,
         permission,
+        issued,
         minute,
         standing: standing != 0,
     };
@@ -115,16 +117,18 @@ pub extern "C" fn boughladder_set_cut(
     items: &mut [u64],
     animal: u64,
     permission: u32,
+    issued: u64,
     minute: u64,
     standing: u32,
     k: u64,
 ) -> BoughladderSetting
     ensures { λ r. ⌜ CutIn four setting-clothes (mem (now (slots .entry)) (now (counters .entry)) (now (items .entry)))
-        (set-animal (grant animal permission minute (not (eqb standing 0)))) k (mem (now (slots .exit)) (now (counters .exit)) (now (items .exit))) r ⌝ }
+        (set-animal (grant animal permission issued minute (not (eqb standing 0)))) k (mem (now (slots .exit)) (now (counters .exit)) (now (items .exit))) r ⌝ }
 {
     let granted = Grant {
         animal,
         permission,
+        issued,
         minute,
         standing: standing != 0,
     };

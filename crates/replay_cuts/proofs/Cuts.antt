@@ -28,12 +28,12 @@ cut-turned k w e = record { put = w .told .line; near = omega (arith, w .told .r
 
 -- row by row
 module _ {m m′ : Mem} {at h next : ℕ} {before after : List ℕ} {row : ℕ} (n : ℕ) (xs : List ℕ) where
-  pub as-cut-set : {g : Grant} → row ≡ 6 → g ≡ grant (getD xs 1 0) (permission (getD xs 2 0)) (getD xs 3 0) false
+  pub as-cut-set : {g : Grant} → row ≡ 6 → g ≡ grant (getD xs 1 0) (permission (getD xs 2 0)) (getD xs 3 0) (getD xs 4 0) false
       → Cut m (set-animal g) (getD xs 0 0) m′ at before after next → Arm row n xs m h m′ at before after next
   unfolding meaning
   as-cut-set {g} e q w = rw (e, ← q) (cut-off (set-animal g) (getD xs 0 0) w)
 
-  pub as-cut-standing : {g : Grant} → row ≡ 7 → g ≡ grant (getD xs 1 0) (permission (getD xs 2 0)) (getD xs 3 0) true
+  pub as-cut-standing : {g : Grant} → row ≡ 7 → g ≡ grant (getD xs 1 0) (permission (getD xs 2 0)) (getD xs 3 0) (getD xs 4 0) true
       → Cut m (set-animal g) (getD xs 0 0) m′ at before after next → Arm row n xs m h m′ at before after next
   unfolding meaning
   as-cut-standing {g} e q w = rw (e, ← q) (cut-off (set-animal g) (getD xs 0 0) w)

@@ -28,13 +28,14 @@ pub fn cut_call(
     let a = numbers[1];
     let b = numbers[2];
     let c = numbers[3];
+    let d = numbers[4];
     match row {
         6 => Turn {
             next: replay_calls::answer_set_cut(
                 slots,
                 counters,
                 items,
-                replay_calls::granted(a, b, c, false),
+                replay_calls::granted(a, b, c, d, false),
                 k,
                 out,
                 at,
@@ -46,7 +47,7 @@ pub fn cut_call(
                 slots,
                 counters,
                 items,
-                replay_calls::granted(a, b, c, true),
+                replay_calls::granted(a, b, c, d, true),
                 k,
                 out,
                 at,

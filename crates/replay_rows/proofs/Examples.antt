@@ -28,17 +28,17 @@ abbrev row : ℕ → List ℕ → Said
 row r ns = record { row = r; numbers = ns }
 
 pub understood :
-    (said language (bytes "set 7 15 30") ≡ row 2 (7 ∷ 15 ∷ 30 ∷ []))
-    × (said language (bytes "\tset  7 015\t30 standing\r") ≡ row 3 (7 ∷ 15 ∷ 30 ∷ []))
-    × (said language (bytes "set 1 4294967295 2") ≡ row 2 (1 ∷ 4294967295 ∷ 2 ∷ []))
+    (said language (bytes "set 7 15 20 30") ≡ row 2 (7 ∷ 15 ∷ 20 ∷ 30 ∷ []))
+    × (said language (bytes "\tset  7 015\t20 30 standing\r") ≡ row 3 (7 ∷ 15 ∷ 20 ∷ 30 ∷ []))
+    × (said language (bytes "set 1 4294967295 2 3") ≡ row 2 (1 ∷ 4294967295 ∷ 2 ∷ 3 ∷ []))
     × (said language (bytes "fresh 8 4 16") ≡ row 16 (8 ∷ 4 ∷ 16 ∷ []))
     × (said language (bytes "read 1 2 3#x") ≡ row 1 (1 ∷ 2 ∷ 3 ∷ []))
     × (said language (bytes "serve 1 2 3 # x") ≡ row 0 (1 ∷ 2 ∷ 3 ∷ []))
     × (said language (bytes "delete 9") ≡ row 4 (9 ∷ []))
     × (said language (bytes "evict") ≡ row 5 ([]))
     × (said language (bytes "hand 18446744073709551615") ≡ row 10 (18446744073709551615 ∷ []))
-    × (said language (bytes "cut 5 set 1 2 3") ≡ row 6 (5 ∷ 1 ∷ 2 ∷ 3 ∷ []))
-    × (said language (bytes "cut 5 set 1 2 3 standing") ≡ row 7 (5 ∷ 1 ∷ 2 ∷ 3 ∷ []))
+    × (said language (bytes "cut 5 set 1 2 3 4") ≡ row 6 (5 ∷ 1 ∷ 2 ∷ 3 ∷ 4 ∷ []))
+    × (said language (bytes "cut 5 set 1 2 3 4 standing") ≡ row 7 (5 ∷ 1 ∷ 2 ∷ 3 ∷ 4 ∷ []))
     × (said language (bytes "cut 5 delete 9") ≡ row 8 (5 ∷ 9 ∷ []))
     × (said language (bytes "cut 5 evict") ≡ row 9 (5 ∷ []))
     × (said language (bytes "list 81920") ≡ row 11 (81920 ∷ []))
@@ -46,7 +46,7 @@ pub understood :
     × (said language (bytes "poke counters 0 9") ≡ row 13 (0 ∷ 9 ∷ []))
     × (said language (bytes "poke items 0 9") ≡ row 14 (0 ∷ 9 ∷ []))
     × (said language (bytes "dump") ≡ row 15 ([]))
-    × (said language (bytes "# set 7 15 30") ≡ row 17 ([]))
+    × (said language (bytes "# set 7 15 20 30") ≡ row 17 ([]))
 unfolding said said-by first-row fitting taken bound lines words pieces filled before same number number-from value all-digits without-comment without-return
 understood = (refl, refl, refl, refl, refl, refl, refl, refl, refl, refl, refl, refl, refl, refl, refl, refl, refl, refl, refl)
 
@@ -57,9 +57,11 @@ pub not-understood :
     × (said language (bytes "hand 1a") ≡ row 18 (0 ∷ []))
     × (said language (bytes "hand") ≡ row 18 (1 ∷ []))
     × (said language (bytes "hand 1 1") ≡ row 18 (2 ∷ []))
-    × (said language (bytes "set 1 4294967296 2") ≡ row 18 (3 ∷ []))
-    × (said language (bytes "set 1 2 3 standin") ≡ row 18 (0 ∷ []))
-    × (said language (bytes "set 1 2 3 standing 4") ≡ row 18 (2 ∷ []))
+    × (said language (bytes "set 1 4294967296 2 3") ≡ row 18 (3 ∷ []))
+    × (said language (bytes "set 1 2 3 4 standin") ≡ row 18 (0 ∷ []))
+    × (said language (bytes "set 1 2 3 4 standing 5") ≡ row 18 (2 ∷ []))
+    × (said language (bytes "set 1 2 3 standing") ≡ row 18 (0 ∷ []))
+    × (said language (bytes "set 1 2 3") ≡ row 18 (1 ∷ []))
     × (said language (bytes "fresh 1 2") ≡ row 18 (1 ∷ []))
     × (said language (bytes "evict 1") ≡ row 18 (2 ∷ []))
     × (said language (bytes "Dump") ≡ row 18 (0 ∷ []))
@@ -72,11 +74,11 @@ pub not-understood :
     × (said language (bytes "12 13") ≡ row 18 (0 ∷ []))
     × (said language (bytes "poke 0 9") ≡ row 18 (0 ∷ []))
 unfolding said said-by first-row fitting taken bound lines words pieces filled before same number number-from value all-digits without-comment without-return why-not furthest parting takes behind instead
-not-understood = (refl, refl, refl, refl, refl, refl, refl, refl, refl, refl, refl, refl, refl, refl, refl, refl, refl, refl, refl)
+not-understood = (refl, refl, refl, refl, refl, refl, refl, refl, refl, refl, refl, refl, refl, refl, refl, refl, refl, refl, refl, refl, refl)
 
 -- a cow that is set, read, served and deleted but for one store; another that stays; and what is answered to the rest
 abbrev day : List ℕ
-day = bytes "# a day of one cow\nfresh 8 1 4\nset 1 5 2\nread 1 720 2\nserve\t1 0 9\ncut 1 delete 1\nread 1 720 3\nfresh 8 1 8\nset 7 4294967295 5 standing\nread 7 0 9\ncut 3 evict\nhand 1\nevict\nlist 20\nset 1 4294967296 2\npoke items 4 9\npoke slots 8 1\nlist 81921\ndump"
+day = bytes "# a day of one cow\nfresh 8 1 4\nset 1 5 2 3\nread 1 720 2\nserve\t1 0 9\ncut 1 delete 1\nread 1 720 3\nfresh 8 1 8\nset 7 4294967295 5 6 standing\nread 7 0 9\ncut 3 evict\nhand 1\nevict\nlist 20\nset 1 4294967296 2 3\npoke items 4 9\npoke slots 8 1\nlist 81921\ndump"
 
 pub day-answered : answers false day
     ≡ bytes "fresh\nstored 1 0\nfresh 5 0\nold 7\ndeleted\nrefused 8\nfresh\nstored 1 0\nfresh 4294967295 0\nevicted 7 3 1\nhand\nrefused 8\nlisted 1\n0700000000000000ffffffffffffffffffffffff\nline 15: not understood: number too large\npoked\nno such word\nline 18: not understood: number too large\nslots 0 0 0 0 0 0 0 0\ncounters 3\nitems 7 4294967295 18446744073709551615 0 9 0 0 0\n"

@@ -32,12 +32,12 @@ turned w e = record { put = w .told .line; near = omega (arith, w .told .room); 
 
 -- row by row
 module _ {m m′ : Mem} {at h next : ℕ} {before after : List ℕ} {row : ℕ} (n : ℕ) (xs : List ℕ) where
-  pub as-set : {g : Grant} → row ≡ 2 → g ≡ grant (getD xs 0 0) (permission (getD xs 1 0)) (getD xs 2 0) false
+  pub as-set : {g : Grant} → row ≡ 2 → g ≡ grant (getD xs 0 0) (permission (getD xs 1 0)) (getD xs 2 0) (getD xs 3 0) false
       → Whole m (set-animal g) m′ at before after next → Arm row n xs m h m′ at before after next
   unfolding meaning
   as-set {g} e q w = rw (e, ← q) (called (set-animal g) w)
 
-  pub as-standing : {g : Grant} → row ≡ 3 → g ≡ grant (getD xs 0 0) (permission (getD xs 1 0)) (getD xs 2 0) true
+  pub as-standing : {g : Grant} → row ≡ 3 → g ≡ grant (getD xs 0 0) (permission (getD xs 1 0)) (getD xs 2 0) (getD xs 3 0) true
       → Whole m (set-animal g) m′ at before after next → Arm row n xs m h m′ at before after next
   unfolding meaning
   as-standing {g} e q w = rw (e, ← q) (called (set-animal g) w)

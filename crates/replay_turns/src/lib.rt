@@ -28,6 +28,7 @@ fn whole_call(
     let a = numbers[0];
     let b = numbers[1];
     let c = numbers[2];
+    let d = numbers[3];
     match row {
         0 => Turn {
             next: replay_calls::answer_serve(slots, counters, items, a, b, c, out, at),
@@ -42,7 +43,7 @@ fn whole_call(
                 slots,
                 counters,
                 items,
-                replay_calls::granted(a, b, c, false),
+                replay_calls::granted(a, b, c, d, false),
                 out,
                 at,
             ),
@@ -53,7 +54,7 @@ fn whole_call(
                 slots,
                 counters,
                 items,
-                replay_calls::granted(a, b, c, true),
+                replay_calls::granted(a, b, c, d, true),
                 out,
                 at,
             ),

@@ -102,11 +102,12 @@ fn say_fnv(text: &[u8]) {
     say(b"\n");
 }
 
-// Animal 1 with permission 5 at minute 2.
+// Animal 1 with permission 5, issued at minute 2.
 fn grant() -> Grant {
     Grant {
         animal: 1,
         permission: 5,
+        issued: 2,
         minute: 2,
         standing: false,
     }
