@@ -8,7 +8,7 @@ pub cut-call-spec : {M : Type 1} → statement M
 cut-call-spec =
     tie.close
     (tie.spec
-    (λ c. search needs) (λ c. search needs) (λ c. search needs) (λ c. search needs) (λ c κs. search needs) (λ c κs. search needs) (λ c κs. search needs)
+    (λ c. search needs) (λ c. search needs) (λ c. search needs) (λ c. search needs) (λ c. search needs) (λ c κs. search needs) (λ c κs. search needs) (λ c κs. search needs)
     (λ c κs. search needs) (λ c κs. search needs) (λ c κs. search needs) (λ c. search needs) (λ c. search needs) (λ c. search needs) (λ c. search needs)
     (λ c. search as-cut-set) (λ c. search needs) (λ c. search needs) (λ c. search needs) (λ c. search needs) (λ c. search as-cut-standing)
     (λ c. search needs) (λ c. search needs) (λ c. search needs) (λ c. search needs) (λ c. search as-cut-delete) (λ c. search needs) (λ c. search needs)
