@@ -5,19 +5,19 @@ use native.Mathlib.Omega.{arith}
 use native.Mathlib.Decide.{ℕ-discrete, decLe}
 use mathlib.Core.Path.{_≡_, refl, sym, ap, _∙_, subst}
 use mathlib.Core.Logic.{_≢_, _⊎_, inl, inr, ⊎-elim, dite}
-use mathlib.Core.Bool.{true}
+use mathlib.Core.Bool.{true, false}
 use mathlib.Core.Option.{some}
 use mathlib.Core.List.{List, [], _∷_, append-nil}
 use lib.ListN.{length, take, replicate}
 use lib.Seq.{take-nil, take-append-le, set-comm}
-use Rattle.model.specs.Memory.{Mem, mem, place, word}
+use Rattle.model.specs.Memory.{Mem, mem, place, stamp, word}
 use Rattle.model.specs.Shape.{Shape, counter-of, fresh-memory, right-lengths, shape-of, four, Ways}
 use Rattle.model.specs.Stores.{Block, Store, apply-all, counted, enter, move, recency, remove, slot-to, update, whole, wholes}
 use Rattle.model.specs.Calling.{AllTyped, Call, Event, Typed, about, did, make-fresh, read, serve, set-animal}
 use Rattle.model.specs.Answers.{Answer, fresh, refused, Listed, stored}
 use Rattle.model.specs.Calls.{Outcome, after-call, call, reading}
 use Rattle.model.specs.Lent.{lent-call}
-use Rattle.model.specs.Row.{beyond, plain, row-call, row-event, walk-to}
+use Rattle.model.specs.Row.{beyond, plain, row-call, row-event, row-late, walk-to}
 use Rattle.model.specs.WellFormed.{WellFormed}
 use Rattle.model.specs.AnyTable.{Table, beside, cut-at, leaves, left}
 use Rattle.model.specs.Demands.{Allowed, Demand1, Demand2, Demand3, Roomy, SeenBy, Story, places, reads, row, table, shape-in}
@@ -269,7 +269,8 @@ module _ (W : Ways) where
         same-words = λ s. over s (λ m l. m .items ≡ l) (our-row W .same-words s);
         fresh-only = freshes;
         cut-reads = λ s c t h. cuts s c t;
-        no-search = λ s q good p. over s (λ m l. walk-to l (q .animal) (places W s) 0 ≡ some p → O .answer m (did (set-animal q)) ≡ stored 0 0) (our-row W .no-search s q good p);
+        no-search = λ s q good p. over s (λ m l. walk-to l (q .animal) (places W s) 0 ≡ some p → row-late (places W s) (stamp l p) q ≡ false
+            → O .answer m (did (set-animal q)) ≡ stored 0 0) (our-row W .no-search s q good p);
       }
 
   -- demand 3

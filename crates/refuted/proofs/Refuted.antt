@@ -27,7 +27,7 @@ use Rattle.model.proofs.Search.{full}
 use Rattle.model.proofs.ListLaws.{true-false, zeros}
 use Rattle.model.proofs.Demand1.{is-refusal}
 use Rattle.model.proofs.Never.{not-standing}
-use Rattle.refuted.specs.Wrong.{clears-later, counts, misreads, refuses-everything, source-first, stores-nothing}
+use Rattle.refuted.specs.Wrong.{clears-later, counts, misreads, refuses-everything, source-first, stamps-arrival, stores-nothing}
 use Rattle.refuted.proofs.Blind.{source-first-2}
 
 -- one name for all that a run computes with
@@ -40,9 +40,12 @@ computing = tt
 abbrev pub lent : ℕ → ℕ → ℕ → Mem
 lent s v i = mem (replicate s 7) (replicate v 3) (replicate i 9)
 
--- animal 1 is set with permission 5 in minute 2
+-- animal 1 is set with permission 5, issued in minute 2, at once; and issued in minute 1, a minute before it arrives
 abbrev pub set-one : Event
-set-one = did (set-animal (grant 1 5 2 false))
+set-one = did (set-animal (grant 1 5 2 2 false))
+
+abbrev set-earlier : Event
+set-earlier = did (set-animal (grant 1 5 1 2 false))
 
 -- animal 1 is read in minute 2, with a limit of 720 minutes
 abbrev pub read-one : Event
@@ -50,7 +53,7 @@ read-one = did (read 1 720 2)
 
 -- animal x is set with permission 7 in minute 100
 abbrev sets : ℕ → Call
-sets x = set-animal (grant x 7 100 false)
+sets x = set-animal (grant x 7 100 100 false)
 
 -- some animals are, one after the other
 abbrev pub set-each : List ℕ → List Event
@@ -71,6 +74,11 @@ none-yet = record { memory = lent 8 1 12; right = refl; calls = []; typed = tt }
 abbrev pub one-in : Story four
 unfolding computing
 one-in = record { memory = lent 8 1 12; right = refl; calls = set-one ∷ []; typed = (omega arith, tt) }
+
+-- or set a minute after the issue
+abbrev pub earlier-in : Story four
+unfolding computing
+earlier-in = record { memory = lent 8 1 12; right = refl; calls = set-earlier ∷ []; typed = (omega arith, tt) }
 
 -- made fresh where every word that was lent is 0
 abbrev pub zero-lent : Story four
@@ -136,8 +144,8 @@ unfolding computing
 refuses-read-2 T n e D = not-refused n (sym (D .as-row none-yet read-one (tt, tt)) ∙ ap plain e)
 
 -- animal 1, permission 5, minute 2
-good-one : GoodInputs (grant 1 5 2 false)
-good-one = record { typed = omega arith; real = λ z. absurd (omega arith); timely = λ z. absurd (omega arith) }
+good-one : GoodInputs (grant 1 5 2 2 false)
+good-one = record { typed = omega arith; real = λ z. absurd (omega arith); timely = λ z. absurd (omega arith); issued = omega arith }
 
 -- any table at all that refuses the first set after fresh, with every slot free, breaks demand 3: there is room
 pub refuses-set-3 : (T : Table) (n : ℕ) → table four T zero-lent .slots ≡ replicate 8 0
@@ -148,7 +156,7 @@ refuses-set-3 T n free e D =
     let i = Y .first-of 1 * 4 + 0 in
     let room : Free (Y .layout) (table four T zero-lent .slots) (Y .first-of 1)
     = (0, omega arith, ap (λ (l : List ℕ). getD l i 0) free ∙ zeros 8 i) in
-    let must = D zero-lent (grant 1 5 2 false) good-one refl 0 refl .else-stores
+    let must = D zero-lent (grant 1 5 2 2 false) good-one refl 0 refl .else-stores
     λ stuck. stuck [] (omega arith) (tt, inl room) in
     true-false {b = true} refl (ap is-refusal (sym e ∙ must .2))
 
@@ -201,6 +209,20 @@ misreads-fresh-2 f v a e D = says-fresh-2 (misreads f) v a e D
 pub always-fresh-2 : (v a : ℕ) → Demand2 four (misreads (λ r. fresh v a)) → ⊥
 always-fresh-2 v a = misreads-fresh-2 (λ r. fresh v a) v a refl
 
+-- any table at all that stores a set of the minute before, and then tells another age than 1, breaks demand 2
+pub another-age-2 : (T : Table) (v n a : ℕ) → T .answer (table four T none-yet) set-earlier ≡ stored v n
+    → plain (T .answer (table four T earlier-in) read-one) ≡ fresh 5 a → a ≢ 1 → Demand2 four T → ⊥
+unfolding computing
+another-age-2 T v n a e r ne D =
+    let told : fresh 5 a ≡ fresh 5 1 = sym r ∙ D .as-row earlier-in read-one (tt, tt)
+    ∙ ap (λ b. row-event 3 0 (row-event 3 b (replicate 12 0) set-earlier .words) read-one .answer) (ap beyond e) in
+    ne cc
+
+-- a set that stamps the minute of arrival breaks demand 2
+pub stamps-arrival-2 : Demand2 four stamps-arrival → ⊥
+unfolding computing
+stamps-arrival-2 D = another-age-2 stamps-arrival 1 0 0 refl refl (λ z. absurd (omega arith)) D
+
 -- a set that stores nothing, and yet answers as ours does, breaks demand 2
 pub stores-nothing-2 : Demand2 four stores-nothing → ⊥
 unfolding computing
@@ -239,7 +261,7 @@ clears-later-2 D = clears-later-reads (D .cut-reads)
 count-not-1 : (n : ℕ) → n ≢ 1 → Demand3 four (counts n) → ⊥
 unfolding computing
 count-not-1 n ne D =
-    let r = D none-yet (grant 1 5 2 false) good-one refl 0 refl .looked n 0 refl in
+    let r = D none-yet (grant 1 5 2 2 false) good-one refl 0 refl .looked n 0 refl in
     r .before 0 (omega (arith, r .one)) (0, omega arith, refl)
 
 -- a visit count that is always 1: the memory when bucket 0 is full
@@ -281,7 +303,7 @@ not-first r =
 count-1 : Demand3 four (counts 1) → ⊥
 count-1 D =
     not-first (subst (λ (m : Mem). Position (shape-in four four-in) (m .slots) 9 1) four-left
-    (D four-in (grant 9 7 100 false) (record { typed = omega arith; real = λ z. absurd (omega arith); timely = λ z. absurd (omega arith) })
+    (D four-in (grant 9 7 100 100 false) (record { typed = omega arith; real = λ z. absurd (omega arith); timely = λ z. absurd (omega arith); issued = omega arith })
     (ap (λ l. walk-to l 9 (places four four-in) 0) four-row ∙ nine-absent) 4
     (ap (λ l. walk-to l 0 (places four four-in) 0) four-row ∙ place-vacant)
     .looked 1 0 (ap (λ m. counts 1 .answer m (did (sets 9))) four-left ∙ nine-said)))

@@ -1,4 +1,5 @@
--- The wrong tables that document 01 names, each a small change of ours, and one more that clears the source first. Assumes nothing.
+-- The wrong tables that document 01 names, each a small change of ours; one that clears the source first, and one that stamps the
+-- arrival. Assumes nothing.
 use Prim.Native.Nat.{ℕ}
 use mathlib.Core.List.{List, [], _∷_, _++_}
 use Rattle.model.specs.Choice.{choose}
@@ -62,6 +63,18 @@ abbrev pub all-swapped : List Block → List Store
 all-swapped [] = []
 all-swapped (b ∷ bs) = swapped b ++ all-swapped bs
 
+-- an entry that is made or updated gets the stamp t, whatever stamp it should get
+abbrev pub restamped : ℕ → Block → List Store
+restamped t (move c from to y) = stores-of (move c from to y)
+restamped t (enter c p i y x v s) = stores-of (enter c p i y x v t)
+restamped t (update c p v s) = stores-of (update c p v t)
+restamped t (remove c i p) = stores-of (remove c i p)
+restamped t (recency p mark) = stores-of (recency p mark)
+
+abbrev pub all-restamped : ℕ → List Block → List Store
+all-restamped t [] = []
+all-restamped t (b ∷ bs) = restamped t b ++ all-restamped t bs
+
 -- changes of our table, of any ways and moves
 module _ (W : Ways) where
   -- other answers, and the same writes
@@ -92,6 +105,20 @@ stores-nothing = built four forgets-sets
 -- a set moves properly at the first displacement and only clears sources in later ones
 abbrev pub clears-later : Table
 clears-later = built four first-proper
+
+-- a set stamps the minute of its arrival, and answers as ours does
+abbrev pub arrival-writes : Mem → Event → List Write
+arrival-writes m make-fresh = our-writes four m make-fresh
+arrival-writes m (did (read x limit now)) = our-writes four m (did (read x limit now))
+arrival-writes m (did (serve x limit now)) = our-writes four m (did (serve x limit now))
+arrival-writes m (did (find x)) = our-writes four m (did (find x))
+arrival-writes m (did (set-animal g)) = traced m (all-restamped (g .minute) (lent-call four m (set-animal g) .blocks))
+arrival-writes m (did (delete x)) = our-writes four m (did (delete x))
+arrival-writes m (did (evict hand)) = our-writes four m (did (evict hand))
+arrival-writes m (did (write-list size)) = our-writes four m (did (write-list size))
+
+abbrev pub stamps-arrival : Table
+stamps-arrival = record { answer = event-answer four; writes = arrival-writes }
 
 -- the visit count is always n
 abbrev pub counts : ℕ → Table
