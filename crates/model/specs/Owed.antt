@@ -4,7 +4,7 @@ use mathlib.Core.Path.{_≡_}
 use mathlib.Core.Logic.{_≢_}
 use lib.ListN.{length}
 use Rattle.model.specs.Memory.{Mem}
-use Rattle.model.specs.Shape.{eight, four, shape-of}
+use Rattle.model.specs.Shape.{Ways, eight, four, shape-of}
 use Rattle.model.specs.Moves.{Legal}
 use Rattle.model.specs.Stores.{stores}
 use Rattle.model.specs.Visits.{sum-of-powers}
@@ -33,9 +33,9 @@ pub record Owed : Type 0 where
   pub fresh-anywhere : FreshAnywhere gate
   pub never-ten : (m : Mem) (hand : ℕ) → lent-call four m (evict hand) .answer ≢ refused 10
   pub well-story : (s : Story four) → WellFormed (shape-in four s) (table four gate s)
-  -- wish 1, beyond its words: when 11 is given, and that no list lowers a stamp, on any memory
-  pub late-refused : (m : Mem) (g : Grant) → LateRefused four m g
-  pub stamps-rise : (m : Mem) (g : Grant) → StampsRise four m g
+  -- wish 1, beyond its words: when 11 is given, and that no list lowers a stamp, on any memory, four ways or eight
+  pub late-refused : (W : Ways) (m : Mem) (g : Grant) → LateRefused W m g
+  pub stamps-rise : (W : Ways) (m : Mem) (g : Grant) → StampsRise W m g
   -- what the code's contracts cite is what the demands speak of
   pub leaves-lent : (m : Mem) (c : Call) → leaves gate m (did c) ≡ lent-after four m c
   pub cuts-lent : (m : Mem) (c : Call) (k : ℕ) → cut-at gate k m (did c) ≡ lent-cut four k m c
