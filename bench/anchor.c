@@ -160,21 +160,23 @@ BoughladderFinding anchor_find(ANCHOR_LENT, uint64_t animal) {
     return f;
 }
 
-INLINE BoughladderSetting setting(ANCHOR_TABLE, uint64_t animal, uint32_t permission, uint64_t now, uint32_t standing,
-                                  Budget budget) {
+INLINE BoughladderSetting setting(ANCHOR_TABLE, uint64_t animal, uint32_t permission, uint64_t issued, uint64_t now,
+                                  uint32_t standing, Budget budget) {
     BoughladderSetting s = {0, 0, 0};
     if (!good_shape(sl, cl, il)) { s.refusal = 1; return s; }
     if (animal == 0) { s.refusal = 2; return s; }
-    if (now == STANDING) { s.refusal = 3; return s; }
+    if (now == STANDING || issued > now) { s.refusal = 3; return s; }
     uint32_t n = (uint32_t)(sl / 4), m = (uint32_t)(il / 4);
     Homes home = homes_of(animal, n, cl);
     uint32_t *counter = counters + home.counter;
     if (*counter & 1) { s.refusal = 8; return s; }
     if (damaged_homes(slots, home, m)) { s.refusal = 4; return s; }
-    uint64_t stamp = standing ? STANDING : now;
+    uint64_t stamp = standing ? STANDING : issued;
     int hit = hit_of(slots, items, home, animal);
     if (hit >= 0) {
         uint64_t *item = items + 4 * (slots[hit] & 65535u);
+        /* A list that comes late does not undo a later one. What stands has no minute of issue to compare. */
+        if (!standing && item[2] != STANDING && issued < item[2]) { s.refusal = 11; return s; }
         store32(&budget, counter, *counter + 1);
         store64(&budget, item + 1, permission);
         store64(&budget, item + 2, stamp);
@@ -228,15 +230,16 @@ INLINE BoughladderSetting setting(ANCHOR_TABLE, uint64_t animal, uint32_t permis
     return s;
 }
 
-BoughladderSetting anchor_set(ANCHOR_TABLE, uint64_t animal, uint32_t permission, uint64_t now, uint32_t standing) {
+BoughladderSetting anchor_set(ANCHOR_TABLE, uint64_t animal, uint32_t permission, uint64_t issued, uint64_t now,
+                              uint32_t standing) {
     Budget whole = {0, 0};
-    return setting(slots, sl, counters, cl, items, il, animal, permission, now, standing, whole);
+    return setting(slots, sl, counters, cl, items, il, animal, permission, issued, now, standing, whole);
 }
 
-BoughladderSetting anchor_set_cut(ANCHOR_TABLE, uint64_t animal, uint32_t permission, uint64_t now, uint32_t standing,
-                                  uint64_t k) {
+BoughladderSetting anchor_set_cut(ANCHOR_TABLE, uint64_t animal, uint32_t permission, uint64_t issued, uint64_t now,
+                                  uint32_t standing, uint64_t k) {
     Budget budget = {1, k};
-    return setting(slots, sl, counters, cl, items, il, animal, permission, now, standing, budget);
+    return setting(slots, sl, counters, cl, items, il, animal, permission, issued, now, standing, budget);
 }
 
 INLINE void take_away(Budget *budget, uint32_t *counter, uint32_t *slot, uint64_t *item) {

@@ -27,12 +27,14 @@ static uint64_t below(uint64_t bound) { return (any() >> 11) % bound; }
 static int one_in(uint64_t count) { return below(count) == 0; }
 
 /* A day at the gate. Nine in ten that come are of the herd. An animal that is deleted makes room for a newcomer, and one
-   that the hand took is set again when her next update comes: so some 890 are held at a time, seven slots in eight. */
+   that the hand took is set again when her next update comes: so some 890 are held at a time, seven slots in eight.
+   A list comes within two minutes of its issue; one in fifty comes hours late, and is mostly refused (11). */
 static void a_day(uint64_t count) {
     unsigned herd[HERD], *leaving = NULL;
     for (uint64_t made = 0; made < count; made++) {
         unsigned now = (unsigned)(made * 1440 / count), permission = (unsigned)below(3);
         unsigned stranger = 1 + (unsigned)below(65535), *animal = herd + below(HERD);
+        unsigned late = (unsigned)below(one_in(50) ? 720 : 3), issued = late < now ? now - late : 0;
         uint64_t kind = below(100);
         if (made == 0) {
             puts("fresh 1024 256 4096");
@@ -42,13 +44,13 @@ static void a_day(uint64_t count) {
             animal = made <= HERD ? herd + made - 1 : leaving;
             leaving = NULL;
             *animal = stranger;
-            printf("set %u %u %u\n", *animal, permission, now);
+            printf("set %u %u %u %u\n", *animal, permission, issued, now);
         } else if (kind < 72) {
             printf("serve %u 720 %u\n", one_in(10) ? stranger : *animal, now);
         } else if (kind < 84) {
             printf("read %u 720 %u\n", one_in(10) ? stranger : *animal, now);
         } else if (kind < 97) {
-            printf("set %u %u %u%s\n", *animal, permission, now, one_in(100) ? " standing" : "");
+            printf("set %u %u %u %u%s\n", *animal, permission, issued, now, one_in(100) ? " standing" : "");
         } else if (kind < 99) {
             printf("delete %u\n", *animal);
             leaving = animal;
@@ -103,11 +105,11 @@ static void number(uint64_t value) {
     word(one_in(80) ? edges[below(sizeof edges / sizeof *edges)] : text);
 }
 
-/* The lengths of the runs, and a factor that scatters the animals. */
-static uint64_t slots = 16, counters = 4, items = 20, odd = 1;
+/* The lengths of the runs, a factor that scatters the animals, the animal of the last set and its minute of issue. */
+static uint64_t slots = 16, counters = 4, items = 20, odd = 1, last = 1, last_issued = 500;
 static enum { WHOLE, CUT, POKED } mood;
 
-static uint64_t an_animal(void) { return (1 + below(items / 2 + 2)) * odd; }
+static uint64_t an_animal(void) { return one_in(5) ? last : (1 + below(items / 2 + 2)) * odd; }
 static uint64_t a_minute(void) { return 500 + below(1000); }
 
 static void fresh(void) {
@@ -146,17 +148,29 @@ static void poke(void) {
     }
 }
 
+/* Mostly issued before now. Of the same animal as the last one, it is often issued about the same minute. */
+static void a_set(void) {
+    uint64_t animal = an_animal(), now = one_in(60) ? UINT64_MAX - below(2) : a_minute();
+    uint64_t issued = one_in(3) ? now : one_in(12) ? now + below(3) : one_in(12) ? any() : now - below(500);
+    if (animal == last && !one_in(4)) {
+        issued = last_issued - 1 + below(3);
+        if (issued > now && !one_in(8)) now = issued;
+    }
+    last = animal, last_issued = issued;
+    word("set");
+    number(animal);
+    number(one_in(20) ? UINT32_MAX - 2 + below(5) : below(5));
+    number(issued);
+    number(now);
+    if (one_in(6)) word("standing");
+}
+
 static void a_write(void) {
     if (mood != WHOLE && one_in(8)) word("cut"), number(below(24));
     switch (below(10)) { /* mostly sets, so that the small tables fill up */
     case 0: word("delete"), number(an_animal()); break;
     case 1: word("evict"); break;
-    default:
-        word("set");
-        number(an_animal());
-        number(one_in(20) ? UINT32_MAX - 2 + below(5) : below(5));
-        number(a_minute());
-        if (one_in(6)) word("standing");
+    default: a_set();
     }
 }
 
@@ -185,7 +199,7 @@ static void a_line(void) {
     if (one_in(40)) used = below(used + 1); /* it ends early */
     if (one_in(100)) number(a_minute()); /* a word too many */
     if (one_in(300)) put_many(" \t0a"[below(4)], a_length());
-    if (one_in(30)) put(one_in(2) ? " # set 1 1 1" : "#");
+    if (one_in(30)) put(one_in(2) ? " # set 1 1 1 1" : "#");
     if (one_in(600)) put_many('#', a_length());
     if (used > 0 && one_in(60)) line[below(used)] = (char)below(256); /* a NUL or a line end, too */
     if (one_in(8)) put_many('\r', one_in(20) ? 2 : 1);

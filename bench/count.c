@@ -33,13 +33,13 @@ static Table ours, theirs, others;
             t->sum += who##_serve(who##_TABLE, i % 10 ? held[i] : i + 1, LIMIT, NOW).kind;                              \
     }                                                                                                                   \
     WORK(who##_updates)                                                                                                 \
-        for (size_t i = 0; i < CALLS; i++) t->sum += who##_set(who##_TABLE, held[i], 1, NOW, 0).refusal;                \
+        for (size_t i = 0; i < CALLS; i++) t->sum += who##_set(who##_TABLE, held[i], 1, NOW, NOW, 0).refusal;           \
     }                                                                                                                   \
     WORK(who##_deletes)                                                                                                 \
         for (size_t i = 0; i < CALLS; i++) t->sum += who##_delete(who##_TABLE, held[i]);                                \
     }                                                                                                                   \
     WORK(who##_new) /* into the places that the deletes left, each the lowest vacant one */                             \
-        for (size_t i = 0; i < CALLS; i++) t->sum += who##_set(who##_TABLE, held[i], 1, NOW, 0).visits;                 \
+        for (size_t i = 0; i < CALLS; i++) t->sum += who##_set(who##_TABLE, held[i], 1, NOW, NOW, 0).visits;            \
     }
 #define EVICTS(who)                                                                                                     \
     WORK(who##_evicts)                                                                                                  \
@@ -62,7 +62,7 @@ int main(void) {
     Table *t = &ours;
     while (herd < M * 9 / 10) {
         uint64_t animal = any();
-        if (boughladder_set(TABLE, animal, 1, NOW - any() % 1000, 0).refusal == 0) held[herd++] = animal;
+        if (boughladder_set(TABLE, animal, 1, NOW - any() % 1000, NOW, 0).refusal == 0) held[herd++] = animal;
     }
     theirs = others = ours;
     ALL(reads);

@@ -31,6 +31,11 @@ static const char *const call_names[CALLS] = {"fresh", "read", "serve", "find", 
 static const char *const table_names[TABLES] = {"ours", "anchor", "second"};
 static const char *const kind_names[KINDS] = {"clean", "cut", "poked", "garbage"};
 
+/* What a set met that was stored or refused 11: the held stamp, beside the minute of issue where neither stands. */
+enum { NOBODY, EARLIER, EQUAL, LATER, HELD_STANDS, NEW_STANDS, BOTH_STAND, MEETINGS };
+static const char *const meeting_names[MEETINGS] = {"none held", "earlier", "equal", "later", "standing", "new one standing",
+                                                    "both standing"};
+
 /* One table: its block of memory, and where the runs lie in it. */
 typedef struct {
     uint64_t block[BLOCK];
@@ -48,7 +53,7 @@ typedef struct {
 typedef struct {
     int call;
     size_t sl, cl, il, hand, buffer_length;
-    uint64_t animal, limit, now, k;
+    uint64_t animal, limit, issued, now, k;
     uint32_t permission, standing;
 } Call;
 
@@ -56,8 +61,8 @@ static Table tables[TABLES], *const ours = &tables[OURS];
 static uint64_t pool[POOL];
 static size_t n, v, m, pool_size, used; /* used: 64-bit words of the block in use */
 static uint64_t state, seed = 1, percent = 100;
-static uint64_t calls, words, by_call[CALLS], by_refusal[11], by_moves[5], by_load[11], by_kind[KINDS], by_answer[4];
-static uint64_t most_visits, large_calls, stopped_cuts, bytes;
+static uint64_t calls, words, by_call[CALLS], by_refusal[12], by_moves[5], by_load[11], by_kind[KINDS], by_answer[4];
+static uint64_t by_meeting[MEETINGS], most_visits, large_calls, stopped_cuts, issued_later, asked_after, bytes;
 
 static uint64_t any(void) { /* splitmix64 */
     uint64_t z = (state += UINT64_C(0x9e3779b97f4a7c15));
@@ -178,8 +183,9 @@ static Reply make(const Call *c, int who) {
         break;
     }
     case SET: case SETCUT: {
-        BoughladderSetting x = c->call == SET ? ANY(set, c->animal, c->permission, c->now, c->standing)
-                                              : EITHER(set_cut, TABLE, c->animal, c->permission, c->now, c->standing, c->k);
+        BoughladderSetting x =
+            c->call == SET ? ANY(set, c->animal, c->permission, c->issued, c->now, c->standing)
+                           : EITHER(set_cut, TABLE, c->animal, c->permission, c->issued, c->now, c->standing, c->k);
         r.refusal = x.refusal; r.visits = x.visits; r.moves = x.moves;
         break;
     }
@@ -209,10 +215,10 @@ static void differs(const Call *c, const Reply *a, const Reply *b, int who, int 
     const Table *other = &tables[who];
     const char *name = table_names[who];
     printf("DIFFERENCE at call %" PRIu64 ", seed %" PRIu64 ", memory %s, N %zu V %zu M %zu\n", calls, seed, kind_names[kind], n, v, m);
-    printf("  %s lengths %zu %zu %zu animal %" PRIu64 " permission %" PRIu32 " limit %" PRIu64 " now %" PRIu64
+    printf("  %s lengths %zu %zu %zu animal %" PRIu64 " permission %" PRIu32 " limit %" PRIu64 " issued %" PRIu64 " now %" PRIu64
            " standing %" PRIu32 " hand %zu k %" PRIu64 " buffer %zu\n",
-           call_names[c->call], c->sl, c->cl, c->il, c->animal, c->permission, c->limit, c->now, c->standing, c->hand, c->k,
-           c->buffer_length);
+           call_names[c->call], c->sl, c->cl, c->il, c->animal, c->permission, c->limit, c->issued, c->now, c->standing, c->hand,
+           c->k, c->buffer_length);
     tell("ours", a);
     tell(name, b);
     int told = 0;
@@ -247,7 +253,23 @@ static void bend_lengths(Call *c) {
     }
 }
 
-static Call a_call(int kind, int growing, size_t hand) {
+/* A minute of issue: mostly before now, often now, and now and then after it. */
+static uint64_t an_issue(uint64_t now) {
+    if (one_in(25)) return one_in(2) ? now + 1 + below(3) : one_in(2) ? any() : UINT64_MAX - below(3);
+    return one_in(3) ? now : now - below(now < 5000 ? now + 1 : 5000);
+}
+
+/* Before a set is made: what it will meet, if it comes so far. */
+static int meeting(const Call *c) {
+    BoughladderFinding f = anchor_find(ours->slots, c->sl, ours->counters, c->cl, ours->items, c->il, c->animal);
+    if (f.refusal != 0 || f.kind != BOUGHLADDER_AT_PLACE) return NOBODY;
+    uint64_t stamp = ours->items[4 * f.place + 2];
+    if (stamp == UINT64_MAX) return c->standing ? BOTH_STAND : HELD_STANDS;
+    if (c->standing) return NEW_STANDS;
+    return stamp < c->issued ? EARLIER : stamp == c->issued ? EQUAL : LATER;
+}
+
+static Call a_call(int kind, int growing, size_t hand, const Call *last) {
     Call c;
     memset(&c, 0, sizeof c);
     c.sl = 4 * n; c.cl = v; c.il = 4 * m;
@@ -256,8 +278,10 @@ static Call a_call(int kind, int growing, size_t hand) {
     c.permission = (uint32_t)any();
     c.limit = one_in(40) ? 10079 + below(3) : one_in(40) ? any() : below(10081);
     c.now = one_in(100) ? UINT64_MAX - below(3) : one_in(100) ? below(3) : 20000 + below(14000);
+    if (one_in(200)) c.now += any() << 32; /* a small minute, if somebody keeps 32 bits of it */
+    c.issued = an_issue(c.now);
     c.standing = one_in(10) ? (uint32_t)any() : 0;
-    if (one_in(4)) { /* an animal that has a place, and often an age at the edge of the limit */
+    if (one_in(4)) { /* an animal that has a place, and often an age at the edge of the limit, or an issue at her stamp */
         const uint64_t *item = ours->items + 4 * below(m);
         if (item[0] != 0) c.animal = item[0];
         if (item[2] < UINT64_MAX - 10090 && one_in(2)) {
@@ -265,6 +289,11 @@ static Call a_call(int kind, int growing, size_t hand) {
             c.now = item[2] + c.limit + below(3);
             c.now -= c.now != 0;
         }
+        if (item[2] != UINT64_MAX && !one_in(3)) c.issued = item[2] - 1 + below(3);
+        if (c.issued > c.now && !one_in(10)) c.now = c.issued + below(2);
+    } else if (one_in(8)) { /* the same animal again: a read after a refusal, a list that comes twice */
+        c.animal = last->animal;
+        if (one_in(2)) c.issued = last->issued, c.now = last->now;
     }
     c.k = one_in(6) ? below(5000) : below(26);
     uint64_t dice = below(100);
@@ -322,7 +351,9 @@ static void episode(int large, int kind, uint64_t length) {
     }
 
     size_t hand = 0, load = 0;
-    int growing = 1;
+    int growing = 1, late = 0;
+    Call c;
+    memset(&c, 0, sizeof c);
     uint64_t turn = 1 + below(large ? 12000 : 6 * room + 20);
     for (uint64_t i = 0; i < length; i++) {
         if (turn-- == 0) {
@@ -330,10 +361,12 @@ static void episode(int large, int kind, uint64_t length) {
             turn = 1 + below(large ? 8000 : 6 * room + 20);
         }
         if (kind == POKED && one_in(40)) poke();
-        Call c = a_call(kind, growing, hand);
+        Call last = c;
+        c = a_call(kind, growing, hand, &last);
         if (i == 0 && kind != GARBAGE) { c.call = FRESH; c.sl = 4 * n; c.cl = v; c.il = 4 * m; }
         if (kind == CUT && one_in(3000)) c.call = FRESH; /* or the busy counters would stop everything */
         if (i % 16 == 0) load = live_places();
+        int setting = c.call == SET || c.call == SETCUT, met = setting ? meeting(&c) : NOBODY;
         Reply told = make(&c, OURS);
         calls++;
         for (int k = 1; k < TABLES; k++) {
@@ -351,8 +384,14 @@ static void episode(int large, int kind, uint64_t length) {
         large_calls += (uint64_t)large;
         by_refusal[told.refusal]++;
         by_load[10 * load / room > 10 ? 10 : 10 * load / room]++;
-        if ((c.call == READ || c.call == SERVE) && told.refusal == 0) by_answer[told.kind]++;
-        if ((c.call == SET || c.call == SETCUT) && told.refusal == 0 && told.visits > 0) {
+        if ((c.call == READ || c.call == SERVE) && told.refusal == 0) {
+            by_answer[told.kind]++;
+            asked_after += late && c.animal == last.animal;
+        }
+        late = told.refusal == 11;
+        if (setting && (told.refusal == 0 || late)) by_meeting[met]++;
+        issued_later += setting && told.refusal == 3 && c.now != UINT64_MAX;
+        if (setting && told.refusal == 0 && told.visits > 0) {
             by_moves[told.moves]++;
             if (told.visits > most_visits) most_visits = told.visits;
         }
@@ -377,7 +416,10 @@ int main(int argc, char **argv) {
     printf("\ncalls:");
     for (int i = 0; i < CALLS; i++) printf("  %s %" PRIu64, call_names[i], by_call[i]);
     printf("\nrefusals:");
-    for (int i = 0; i < 11; i++) printf("  %d: %" PRIu64, i, by_refusal[i]);
+    for (int i = 0; i < 12; i++) printf("  %d: %" PRIu64, i, by_refusal[i]);
+    printf("\nsets that were stored or refused 11, by the held stamp:");
+    for (int i = 0; i < MEETINGS; i++) printf("  %s %" PRIu64, meeting_names[i], by_meeting[i]);
+    printf("\nsets refused 3 for an issue after now: %" PRIu64 "\nreads and serves of the animal right after 11: %" PRIu64, issued_later, asked_after);
     printf("\nread and serve:  absent %" PRIu64 "  fresh %" PRIu64 "  old %" PRIu64 "  ahead %" PRIu64, by_answer[0], by_answer[1], by_answer[2], by_answer[3]);
     printf("\nmoves of new entries:");
     for (int i = 0; i < 5; i++) printf("  %d: %" PRIu64, i, by_moves[i]);

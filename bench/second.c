@@ -109,20 +109,23 @@ BoughladderReading second_serve(const BoughladderTable *t, uint64_t animal, uint
     return r;
 }
 
-BoughladderSetting second_set(const BoughladderTable *t, uint64_t animal, uint32_t permission, uint64_t now, uint32_t standing) {
+BoughladderSetting second_set(const BoughladderTable *t, uint64_t animal, uint32_t permission, uint64_t issued, uint64_t now,
+                              uint32_t standing) {
     BoughladderSetting s = {0, 0, 0};
     if (!good_shape(t)) { s.refusal = 1; return s; }
     if (animal == 0) { s.refusal = 2; return s; }
-    if (now == STANDING) { s.refusal = 3; return s; }
+    if (now < issued || now == STANDING) { s.refusal = 3; return s; }
     Homes home = homes_of(t, animal);
     uint32_t n = (uint32_t)(t->slots_length / 4), m = (uint32_t)(t->items_length / 4);
     if (t->counters[home.counter] & 1) { s.refusal = 8; return s; }
     size_t to;
     int64_t hit = hit_of(t, home, animal, &to);
-    uint64_t stamp = standing ? STANDING : now;
+    uint64_t stamp = standing ? STANDING : issued;
     if (hit == DAMAGED) { s.refusal = 4; return s; }
     if (hit != ABSENT) {
         uint64_t *item = t->items + 4 * hit;
+        /* Nothing is later than the stamp of a standing set, the largest number; held, that number is no minute. */
+        if (item[2] > stamp && item[2] != STANDING) { s.refusal = 11; return s; }
         t->counters[home.counter]++;
         item[1] = permission;
         item[2] = stamp;

@@ -44,10 +44,11 @@ typedef double Work(Table *t, size_t from);
 #define WORKS(who)                                                                                          \
     ASKS(who, reads, read)                                                                                  \
     ASKS(who, serves, serve)                                                                                \
-    WORK(who##_updates)                                                                                     \
+    WORK(who##_updates) /* issued at or after the stamp that is held, so that none is late */               \
         double start = now_ns();                                                                            \
         for (size_t i = 0; i < herd; i++) {                                                                 \
-            BoughladderSetting s = who##_set(who##_TABLE, held[i], (uint32_t)i, NOW - i % 1000, 0);         \
+            uint64_t minute = NOW + i % 1000;                                                               \
+            BoughladderSetting s = who##_set(who##_TABLE, held[i], (uint32_t)i, minute, minute, 0);         \
             t->sum += s.refusal + s.visits + s.moves;                                                       \
         }                                                                                                   \
         return (now_ns() - start) / (double)herd;                                                           \
@@ -55,7 +56,7 @@ typedef double Work(Table *t, size_t from);
     WORK(who##_new)                                                                                         \
         double start = now_ns();                                                                            \
         for (size_t i = from; i < from + BATCH; i++) {                                                      \
-            BoughladderSetting s = who##_set(who##_TABLE, absent[i], (uint32_t)i, NOW, 0);                  \
+            BoughladderSetting s = who##_set(who##_TABLE, absent[i], (uint32_t)i, NOW, NOW, 0);             \
             t->sum += s.refusal + s.visits + s.moves;                                                       \
         }                                                                                                   \
         return (now_ns() - start) / BATCH;                                                                  \
@@ -68,7 +69,7 @@ typedef double Work(Table *t, size_t from);
     WORK(who##_pairs)                                                                                       \
         double start = now_ns();                                                                            \
         for (size_t i = from; i < from + BATCH; i++) {                                                      \
-            BoughladderSetting s = who##_set(who##_TABLE, absent[i], (uint32_t)i, NOW, 0);                  \
+            BoughladderSetting s = who##_set(who##_TABLE, absent[i], (uint32_t)i, NOW, NOW, 0);             \
             t->sum += s.refusal + s.visits + s.moves + who##_delete(who##_TABLE, absent[i]);                \
         }                                                                                                   \
         return (now_ns() - start) / BATCH;                                                                  \
@@ -84,7 +85,7 @@ typedef double Work(Table *t, size_t from);
             victims[i] = e.victim;                                                                          \
         }                                                                                                   \
         double spent = (now_ns() - start) / BATCH;                                                          \
-        for (size_t i = 0; i < BATCH; i++) t->sum += who##_set(TABLE, victims[i], 1, NOW, 0).refusal;       \
+        for (size_t i = 0; i < BATCH; i++) t->sum += who##_set(TABLE, victims[i], 1, NOW, NOW, 0).refusal;  \
         return spent;                                                                                       \
     }                                                                                                       \
     WORK(who##_lists)                                                                                       \
@@ -119,7 +120,7 @@ static void fill(unsigned load) {
     while (fresh_ones < M) {
         uint64_t animal = any();
         size_t in_batch = fresh_ones % BATCH;
-        if (boughladder_set(TABLE, animal, 1, NOW, 0).refusal != 0) continue;
+        if (boughladder_set(TABLE, animal, 1, NOW, NOW, 0).refusal != 0) continue;
         absent[fresh_ones++] = animal;
         if (in_batch == BATCH - 1)
             for (size_t i = fresh_ones - BATCH; i < fresh_ones; i++) boughladder_delete(TABLE, absent[i]);

@@ -4,8 +4,8 @@
     python3 samples/check.py [--echo] [FILE]      (no FILE, or -: standard input)
 
 It prints the answers that `./replay` must print, and ends with its status. It
-was written from the order and docs/replay-format.md only, not from the Rattle
-code, so that the two can disagree.
+was written from the order, its change requests (wish 1 has landed) and
+docs/replay-format.md only, not from the Rattle code, so that the two can disagree.
 Every call first works out its answer and the list of its stores without
 touching the table; then the first k stores are made. So the cut form and the
 whole call are one and the same text here.
@@ -103,11 +103,11 @@ class Table:
         if any(self.damaged(self.slots[s]) for s in self.home_slots(animal)):
             raise Refused(4)
 
-    def test_1_2_3_8_4(self, animal, limit=0, now=0):
+    def test_1_2_3_8_4(self, animal, limit=0, issued=0, now=0):
         self.test_1()
         if animal == 0:
             raise Refused(2)
-        if limit > 10080 or now == TOP:
+        if limit > 10080 or now == TOP or issued > now:
             raise Refused(3)
         self.test_8_4(animal)
 
@@ -122,7 +122,7 @@ class Table:
     # -- the calls: each returns its answer and its list of stores
 
     def read(self, animal, limit, now, serve=False):
-        self.test_1_2_3_8_4(animal, limit, now)
+        self.test_1_2_3_8_4(animal, limit=limit, now=now)
         s = self.hit(animal)
         if s is None:
             return 'absent', []
@@ -138,13 +138,15 @@ class Table:
             return f'fresh {permission} {now - stamp}', recent
         return f'old {now - stamp}', []
 
-    def set(self, animal, permission, now, standing):
-        self.test_1_2_3_8_4(animal, 0, now)
-        stamp = TOP if standing else now
+    def set(self, animal, permission, issued, now, standing):
+        self.test_1_2_3_8_4(animal, issued=issued, now=now)
+        stamp = TOP if standing else issued
         bump = ('counters', self.counter_of(animal), None)
         held = self.hit(animal)
         if held is not None:
             p = 4 * (self.slots[held] % 65536)
+            if not standing and TOP != self.items[p + 2] > issued:
+                raise Refused(11)
             return 'stored 0 0', [bump,
                                   ('items', p + 1, permission),
                                   ('items', p + 2, stamp),
@@ -249,10 +251,10 @@ class Table:
 # Every form of a line, in the page's order: N is a number, P a permission, B the
 # length of a buffer, any other word stands for itself.
 FORMS = [form.split() for form in (
-    'fresh N N N', 'set N P N', 'set N P N standing', 'read N N N', 'serve N N N',
-    'delete N', 'evict', 'hand N', 'cut N set N P N', 'cut N set N P N standing',
-    'cut N delete N', 'cut N evict', 'list B', 'poke slots N N',
-    'poke counters N N', 'poke items N N', 'dump', '')]
+    'fresh N N N', 'set N P N N', 'set N P N N standing', 'read N N N',
+    'serve N N N', 'delete N', 'evict', 'hand N', 'cut N set N P N N',
+    'cut N set N P N N standing', 'cut N delete N', 'cut N evict', 'list B',
+    'poke slots N N', 'poke counters N N', 'poke items N N', 'dump', '')]
 MOST = {'N': TOP, 'P': 2**32 - 1, 'B': BUFFER_MAX}
 
 
@@ -345,7 +347,7 @@ class Replay:
         """Set, delete or evict, of which the first k stores are made."""
         t = self.table
         if name == 'set':
-            answer, stores = t.set(*rest[:3], standing=len(rest) == 4)
+            answer, stores = t.set(*rest[:4], standing=len(rest) == 5)
         elif name == 'delete':
             answer, stores = t.delete(*rest)
         else:

@@ -58,7 +58,9 @@ class Day:
         self.r = random.Random(seed)
         self.pool = [self.r.choice([n + 1, self.r.getrandbits(64)]) for n in range(self.r.choice([6, 30, 90]))]
         self.now = self.r.choice([0, 100, 2**40])
-        self.rough = self.one_in(2)  # with cuts and pokes: most of its calls are refused
+        self.last, self.issues = self.pool[0], {}  # the animal of the last set; each animal's last minute of issue
+        # With cuts most calls are refused 8, so some days have pokes alone, to reach what comes after 8.
+        self.cuts, self.pokes = self.r.choice([(False, False), (False, True), (True, True)])
         self.shape()
 
     def shape(self):
@@ -73,12 +75,14 @@ class Day:
         return r.choice([0, 1, r.randrange(50), r.randrange(2**32), 2**32 - 1, 2**32, r.getrandbits(64), 2**64 - 1])
 
     def animal(self):
+        if self.one_in(5):
+            return self.last
         return 0 if self.one_in(60) else self.number() if self.one_in(20) else self.r.choice(self.pool)
 
     def minute(self):
         self.now += self.r.randrange(40)
-        if self.one_in(80):
-            return 2**64 - 1
+        if self.one_in(60):
+            return self.r.choice([2**64 - 1, 2**64 - 2, self.r.getrandbits(64)])
         return max(0, self.now - self.r.randrange(3000)) if self.one_in(4) else self.now
 
     def limit(self):
@@ -87,13 +91,30 @@ class Day:
     def length(self, good):
         return self.number() if self.one_in(30) else good + (self.one_in(15) and self.r.choice([-1, 1, 4]))
 
+    def issued(self, animal, now):
+        """Before now, now, or after it; often about the minute of the animal's last set, which it mostly holds."""
+        r = self.r
+        if self.one_in(20):
+            return self.number()
+        if animal in self.issues and not self.one_in(3):
+            return min(max(0, self.issues[animal] + r.choice([-1, -1, 0, 1])), 2**64 - 1)
+        late = r.choice([0, 0, 0, r.randrange(60), r.randrange(60), r.randrange(3000), -1])
+        return min(max(0, now - late), 2**64 - 1)
+
+    def set(self):
+        animal, now = self.animal(), self.minute()
+        issued = self.issued(animal, now)
+        now = now if self.one_in(5) else max(issued, now)
+        self.last = animal or self.last
+        if issued <= now < 2**64 - 1:
+            self.issues[animal] = issued
+        line = ['set', animal, self.r.choice([0, 1, 2, 3, 2**32 - 1]), issued, now]
+        return line + ['standing'] * self.one_in(7)
+
     def write(self):
         """A set, delete or evict."""
-        r, kind = self.r, self.r.randrange(10)
-        if kind < 7:
-            line = ['set', self.animal(), r.choice([0, 1, 2, 3, 2**32 - 1]), self.minute()]
-            return line + ['standing'] * self.one_in(7)
-        return ['delete', self.animal()] if kind < 8 else ['evict']
+        kind = self.r.randrange(10)
+        return self.set() if kind < 7 else ['delete', self.animal()] if kind < 8 else ['evict']
 
     def call(self):
         r, kind = self.r, self.r.randrange(100)
@@ -107,16 +128,16 @@ class Day:
             return ['dump']
         if kind < 84:
             return ['hand', r.choice([0, self.m - 1, self.m, self.number()])]
-        if kind < 85 or kind < 88 and self.rough:
+        if kind < 85 or kind < 88 and self.cuts:
             self.shape()
             return ['fresh', self.length(4 * self.n), self.length(self.v), self.length(4 * self.m)]
         if kind < 94:
-            return ['cut', r.choice([0, 1, 2, 3, 5, 7, 11, 30, self.number()]) if self.rough else 100, *self.write()]
-        if not self.rough:
-            return ['set', self.animal(), 1, self.minute()]
-        run = r.choice(['slots', 'counters', 'items'])
+            return ['cut', r.choice([0, 1, 2, 3, 5, 7, 11, 30, self.number()]) if self.cuts else 100, *self.write()]
+        if not self.pokes:
+            return self.set()
+        run = r.choice(['slots', 'slots', 'counters', 'items'])
         good = {'slots': 4 * self.n, 'counters': self.v, 'items': 4 * self.m}[run]
-        return ['poke', run, r.randrange(good + 1), 0 if self.one_in(2) else self.number()]
+        return ['poke', run, r.randrange(good + 1), 0 if self.one_in(3) else self.number()]
 
     def digits(self, number):
         zeros = self.r.choice([1, 2, 30, 400]) if self.one_in(25) else 0
@@ -161,7 +182,7 @@ class Day:
     def line(self):
         r = self.r
         if self.one_in(14):
-            return r.choice([b'', b' ', b'\t \t', b'#', b'# set 1 2 3', b'  # \xff\x00', b'#' * 300])
+            return r.choice([b'', b' ', b'\t \t', b'#', b'# set 1 2 3 4', b'  # \xff\x00', b'#' * 300])
         if self.one_in(90):
             return bytes(r.choice(b'0123456789 \t#setcut\x00\x0b\x0c\r\xff\xc2\xa0') for _ in range(r.randrange(60)))
         words = [self.digits(w) if isinstance(w, int) else w.encode() for w in self.call()]
