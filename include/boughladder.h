@@ -43,9 +43,9 @@
  *
  * A late list, issued before what is held, is refusal 11: she keeps the later permission. That compares with what is
  * held and with nothing else:
- *   - after a delete or an eviction a late list is stored, and is fresh if its issue minute is within the limit;
+ *   - after a delete, an eviction or fresh a late list is stored, and is fresh if its issue minute is within the limit;
  *   - what came with minutes that ran ahead locks its animal: it reads as ahead, and every true list is late, until the
- *     clock is there or she is deleted. Delete her, then set her again.
+ *     clock is there; then the old permission is fresh once more. Delete her, then set her again.
  * A standing permission is never late, and over a standing one no list is.
  *
  * No call takes memory but the three runs and the stack: about 3.2 KB for set, at most 0.4 KB for any other, as
@@ -62,9 +62,9 @@
 #include <stdint.h>
 
 /* This header's version, as text and as numbers. The archive has none to ask for: ship both from one release.
-   A caller of 1.0.0 does not compile: each set has one minute more, the standing ones two. What was compiled before
-   does link, and passes its numbers one place off; so does this header with the archive of 1.0.0, which takes now for
-   standing. Compile everything again. */
+   A caller of 1.0.0 does not compile: each set takes one minute more, and over a table a standing one takes two.
+   What was compiled before does link, and passes its numbers one place off. So does this header with the archive of
+   1.0.0, which takes now for standing: every permission is then fresh for ever. Compile and link everything again. */
 #define BOUGHLADDER_VERSION "2.0.0"
 #define BOUGHLADDER_VERSION_MAJOR 2
 #define BOUGHLADDER_VERSION_MINOR 0

@@ -180,6 +180,7 @@ class Story(unittest.TestCase):
         # Put right, it makes every true list late, until she is deleted.
         self.assertEqual(table.read(7, 720, 900), Reading(AHEAD))
         self.unchanged(11, table, 7, 900, 900)
+        self.assertEqual(table.read(7, 720, 5000), fresh(1, 0))
         table.delete(7)
         self.assertEqual(table.set(7, 1, 900, 900), Stored(1, 0))
         self.assertEqual(table.read(7, 720, 900), fresh(1, 0))

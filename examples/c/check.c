@@ -1,7 +1,8 @@
 /*
  * Checks include/boughladder.h and libboughladder.a against each other: the layout of each struct, each call with known
- * answers (the order's examples), the sizes and limits, the calls over a table beside the plain ones, and garbage
- * memory of any length in blocks of their own, so that valgrind sees a read or a write outside.
+ * answers (the order's examples), late lists and the order of set's refusals, the sizes and limits, the calls over a
+ * table beside the plain ones, and garbage memory of any length in blocks of their own, so that valgrind sees a read or
+ * a write outside.
  * `check ROUNDS` prints one line, `N checks passed`, or the checks that failed.
  */
 #include <stdio.h>
@@ -336,6 +337,7 @@ static void issues(void) {
     CHECK(sets(boughladder_set(LENT(t), 7, 1, 5000, 5000, 0), 0, 0, 0));
     CHECK(reads(boughladder_read(LENT(t), 7, 720, 900), 0, BOUGHLADDER_AHEAD, 0, 0));
     CHECK(refuses(&t, 7, 900, 900, 0, BOUGHLADDER_LATE));
+    CHECK(reads(boughladder_read(LENT(t), 7, 720, 5000), 0, BOUGHLADDER_FRESH, 1, 0));
     CHECK(refuses(&t, 7, 4999, 5001, 0, BOUGHLADDER_LATE));
     CHECK(sets(boughladder_set(LENT(t), 7, 1, 5001, 5001, 0), 0, 0, 0));
     CHECK(boughladder_delete(LENT(t), 7) == 0);

@@ -69,6 +69,7 @@ static unsigned long reads(double limit) {
         r = boughladder_table_read(&table, COW, BOUGHLADDER_LARGEST_LIMIT, NOW);
         leave();
         asked++;
+        /* Absent stands between her delete and the next set: with the mutex nobody sees it. */
         if (r.refusal == BOUGHLADDER_BUSY || (r.refusal == 0 && r.kind == BOUGHLADDER_ABSENT)) {
             between++;
         } else if (r.refusal != 0 || r.kind != BOUGHLADDER_FRESH || r.permission + r.age != NOW) {

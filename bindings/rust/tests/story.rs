@@ -222,6 +222,7 @@ fn a_clock_that_ran_ahead() {
     // Put right, it makes every true list late, until she is deleted.
     assert_eq!(table.read(7, 720, 900), Ok(Reading::Ahead));
     assert_eq!(refused(&mut table, 7, 900, 900, false), Refusal::Late);
+    assert_eq!(table.read(7, 720, 5000), fresh(1, 0));
     table.delete(7).unwrap();
     assert_eq!(table.set(7, 1, 900, 900), stored(1, 0));
     assert_eq!(table.read(7, 720, 900), fresh(1, 0));
