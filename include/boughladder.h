@@ -7,7 +7,7 @@
  *     BoughladderTable table = BOUGHLADDER_TABLE(slots, counters, items);
  *
  *     refusal = boughladder_table_fresh(&table);
- *     stored = boughladder_table_set(&table, 4711, 1, now);
+ *     stored = boughladder_table_set(&table, 4711, 1, issued, now);
  *     reading = boughladder_table_serve(&table, 4711, 720, now);
  *     if (boughladder_lane(reading) == BOUGHLADDER_MILKING) open_milking_gate();
  *
@@ -36,6 +36,18 @@
  * Minutes are counted by the caller. UINT64_MAX is no minute: as a stamp it marks a standing permission. Count from
  * long ago, so that now is above 10080: then a limit and a now that are swapped are refusal 3.
  *
+ * The two minutes of a set. issued is the minute in which the office gave the permission, by the gate's count; the list
+ * brings it, and a relay on the way leaves it alone. It becomes the stamp, so age runs from issue and not from arrival.
+ * now is the gate's clock, and an issued later than now is refusal 3. Swapped, they are refusal 3 too where issued is
+ * earlier than now; where it is later, now becomes the stamp, which is wrong. No numbers crash.
+ *
+ * A late list, issued before what is held, is refusal 11: she keeps the later permission. That compares with what is
+ * held and with nothing else:
+ *   - after a delete, an eviction or fresh a late list is stored, and is fresh if its issue minute is within the limit;
+ *   - what came with minutes that ran ahead locks its animal: it reads as ahead, and every true list is late, until the
+ *     clock is there; then the old permission is fresh once more. Delete her, then set her again.
+ * A standing permission is never late, and over a standing one no list is.
+ *
  * No call takes memory but the three runs and the stack: about 3.2 KB for set, at most 0.4 KB for any other, as
  * examples/c/stack.c measures it.
  * size_t is 64 bits wide in the archive. On a 32-bit target finding, setting, evicting and listing would be smaller,
@@ -49,9 +61,12 @@
 #include <stddef.h>
 #include <stdint.h>
 
-/* This header's version, as text and as numbers. The archive has none to ask for: ship both from one release. */
-#define BOUGHLADDER_VERSION "1.0.0"
-#define BOUGHLADDER_VERSION_MAJOR 1
+/* This header's version, as text and as numbers. The archive has none to ask for: ship both from one release.
+   A caller of 1.0.0 does not compile: each set takes one minute more, and over a table a standing one takes two.
+   What was compiled before does link, and passes its numbers one place off. So does this header with the archive of
+   1.0.0, which takes now for standing: every permission is then fresh for ever. Compile and link everything again. */
+#define BOUGHLADDER_VERSION "2.0.0"
+#define BOUGHLADDER_VERSION_MAJOR 2
 #define BOUGHLADDER_VERSION_MINOR 0
 #define BOUGHLADDER_VERSION_PATCH 0
 
@@ -114,14 +129,15 @@ enum BoughladderRefusal {
     BOUGHLADDER_OK = 0,            /* not refused */
     BOUGHLADDER_BAD_SHAPE = 1,     /* a length is not as above, or the hand is M or more */
     BOUGHLADDER_NO_ANIMAL = 2,     /* the animal number is 0 */
-    BOUGHLADDER_BAD_TIME = 3,      /* the limit is above 10080 minutes, or now is UINT64_MAX */
+    BOUGHLADDER_BAD_TIME = 3,      /* the limit is above 10080, now is UINT64_MAX, or issued is later than now */
     BOUGHLADDER_DAMAGED = 4,       /* a word that no call writes was read, or evict's victim has no slot */
     BOUGHLADDER_NO_PLACE = 5,      /* set of an absent animal: all M places are taken */
     BOUGHLADDER_NO_ROOM = 6,       /* set of an absent animal: no free slot within four moves */
     BOUGHLADDER_NOBODY = 7,        /* delete of an absent animal, or evict where no place is taken */
     BOUGHLADDER_BUSY = 8,          /* the animal's counter is odd: a write was cut off */
     BOUGHLADDER_SHORT_BUFFER = 9,  /* the list needs 20 bytes for each place that is taken */
-    BOUGHLADDER_NO_VICTIM = 10     /* the hand found no victim: proved never to happen */
+    BOUGHLADDER_NO_VICTIM = 10,    /* the hand found no victim: proved never to happen */
+    BOUGHLADDER_LATE = 11          /* set of a held animal: its stamp is later than issued, and neither is standing */
 };
 
 /* What a call that was not refused found. */
@@ -210,19 +226,21 @@ BoughladderFinding boughladder_find(const uint32_t *slots, size_t slots_length, 
                                     size_t counters_length, const uint64_t *items, size_t items_length,
                                     uint64_t animal);
 
-/* Stores a permission with the stamp now, or as a standing one where standing is not 0, over the one that is held.
-   Refusals 1, 2, 3, 8, 4; then, for an animal that is not held yet, 5, 4 and 6. */
+/* Stores a permission with the stamp issued, or as a standing one where standing is not 0, over the one that is held.
+   A stamp equal to the held one is stored. A standing set's minutes are tested as any other's, and then dropped.
+   Refusals 1, 2, 3, 8, 4, in this order; then 11 for an animal that is held, or 5, 4 and 6 for one that is not. */
 BOUGHLADDER_MUST_USE
 BoughladderSetting boughladder_set(uint32_t *slots, size_t slots_length, uint32_t *counters, size_t counters_length,
                                    uint64_t *items, size_t items_length, uint64_t animal, uint32_t permission,
-                                   uint64_t now, uint32_t standing);
+                                   uint64_t issued, uint64_t now, uint32_t standing);
 
 /* Set, of which only the first k stores are made: a new entry takes 7 stores and 4 more for each move, an update 5.
    Reply and refusals as set, for every k. */
 BOUGHLADDER_MUST_USE
 BoughladderSetting boughladder_set_cut(uint32_t *slots, size_t slots_length, uint32_t *counters,
                                        size_t counters_length, uint64_t *items, size_t items_length, uint64_t animal,
-                                       uint32_t permission, uint64_t now, uint32_t standing, uint64_t k);
+                                       uint32_t permission, uint64_t issued, uint64_t now, uint32_t standing,
+                                       uint64_t k);
 
 /* Takes the animal's entry away. The reply is the refusal number, 0 for success.
    Refusals 1, 2, 8, 4, 7. */
@@ -329,30 +347,32 @@ static inline BoughladderFinding boughladder_table_find(const BoughladderTable *
     return boughladder_find(BOUGHLADDER_LENT_(table), animal);
 }
 
-/* With the stamp now. */
+/* With the stamp issued. */
 BOUGHLADDER_MUST_USE
 static inline BoughladderSetting boughladder_table_set(BoughladderTable *table, uint64_t animal, uint32_t permission,
-                                                       uint64_t now) {
-    return boughladder_set(BOUGHLADDER_LENT_(table), animal, permission, now, 0);
+                                                       uint64_t issued, uint64_t now) {
+    return boughladder_set(BOUGHLADDER_LENT_(table), animal, permission, issued, now, 0);
 }
 
-/* Without a minute: a standing permission is always fresh. */
+/* Always fresh. Its minutes are only tested: one that was issued later than now is refusal 3. */
 BOUGHLADDER_MUST_USE
 static inline BoughladderSetting boughladder_table_set_standing(BoughladderTable *table, uint64_t animal,
-                                                                uint32_t permission) {
-    return boughladder_set(BOUGHLADDER_LENT_(table), animal, permission, 0, 1);
+                                                                uint32_t permission, uint64_t issued, uint64_t now) {
+    return boughladder_set(BOUGHLADDER_LENT_(table), animal, permission, issued, now, 1);
 }
 
 BOUGHLADDER_MUST_USE
 static inline BoughladderSetting boughladder_table_set_cut(BoughladderTable *table, uint64_t animal,
-                                                           uint32_t permission, uint64_t now, uint64_t k) {
-    return boughladder_set_cut(BOUGHLADDER_LENT_(table), animal, permission, now, 0, k);
+                                                           uint32_t permission, uint64_t issued, uint64_t now,
+                                                           uint64_t k) {
+    return boughladder_set_cut(BOUGHLADDER_LENT_(table), animal, permission, issued, now, 0, k);
 }
 
 BOUGHLADDER_MUST_USE
 static inline BoughladderSetting boughladder_table_set_standing_cut(BoughladderTable *table, uint64_t animal,
-                                                                    uint32_t permission, uint64_t k) {
-    return boughladder_set_cut(BOUGHLADDER_LENT_(table), animal, permission, 0, 1, k);
+                                                                    uint32_t permission, uint64_t issued,
+                                                                    uint64_t now, uint64_t k) {
+    return boughladder_set_cut(BOUGHLADDER_LENT_(table), animal, permission, issued, now, 1, k);
 }
 
 BOUGHLADDER_MUST_USE
@@ -399,7 +419,7 @@ static inline const char *boughladder_refusal_text(uint32_t refusal) {
         case BOUGHLADDER_OK: return "not refused";
         case BOUGHLADDER_BAD_SHAPE: return "a length of the lent memory is wrong, or the hand is too large";
         case BOUGHLADDER_NO_ANIMAL: return "the animal number is 0";
-        case BOUGHLADDER_BAD_TIME: return "the limit is above 10080 minutes, or the clock gave no minute";
+        case BOUGHLADDER_BAD_TIME: return "the limit is too large, now is no minute, or issued is later than now";
         case BOUGHLADDER_DAMAGED: return "a damaged word was read";
         case BOUGHLADDER_NO_PLACE: return "no vacant place for a new animal";
         case BOUGHLADDER_NO_ROOM: return "no room within four moves for a new animal";
@@ -407,6 +427,7 @@ static inline const char *boughladder_refusal_text(uint32_t refusal) {
         case BOUGHLADDER_BUSY: return "busy: a write was cut off";
         case BOUGHLADDER_SHORT_BUFFER: return "the buffer is too short for the list";
         case BOUGHLADDER_NO_VICTIM: return "the hand found no victim";
+        case BOUGHLADDER_LATE: return "late: a permission that was issued later is held";
         default: return "no refusal number";
     }
 }

@@ -3,7 +3,7 @@
     from boughladder import HOLDING, Refusal, Table, lane
 
     table = Table(buckets=64, counters=16, places=200)
-    table.set(4711, 1, now)
+    table.set(4711, 1, issued, now)
     try:
         where = lane(table.serve(4711, 720, now))
     except Refusal as refusal:
@@ -11,6 +11,12 @@
         print(refusal)
 
 A refusal is the exception Refusal, with its number and a sentence: hold the animal. It changes no word of the table.
+
+A set takes two minutes, issued before now; they may go by name. issued is when the office gave the permission, as the
+list says; it becomes the stamp. now is the gate's clock. Swapped, they are refusal 3 where issued is earlier than now;
+where it is later, now becomes the stamp, which is wrong. A list that was issued before what is held is refusal 11, and
+nothing else stops a late list: after a delete or an eviction it is stored. What came with minutes that ran ahead makes
+every true list late until the animal is deleted.
 
 One call at a time: no call may run while another one writes (fresh, set, delete, evict, serve and the cut forms) on the
 same table. Each Table has a lock and each of its calls takes it, so threads may share it. Two Tables over the same
@@ -36,7 +42,7 @@ MAY_MILK, MAY_GRAZE = 1, 2
 REFUSALS = {
     1: 'a length of the lent memory is wrong, or the hand is too large',
     2: 'the animal number is 0',
-    3: 'the limit is above 10080 minutes, or the clock gave no minute',
+    3: 'the limit is too large, now is no minute, or issued is later than now',
     4: 'a damaged word was read',
     5: 'no vacant place for a new animal',
     6: 'no room within four moves for a new animal',
@@ -44,6 +50,7 @@ REFUSALS = {
     8: 'busy: a write was cut off',
     9: 'the buffer is too short for the list',
     10: 'the hand found no victim',
+    11: 'late: a permission that was issued later is held',
 }
 
 
@@ -125,8 +132,8 @@ _CALLS = {
     'read': (_Reading, [_u64, _u64, _u64]),
     'serve': (_Reading, [_u64, _u64, _u64]),
     'find': (_Finding, [_u64]),
-    'set': (_Setting, [_u64, _u32, _u64, _u32]),
-    'set_cut': (_Setting, [_u64, _u32, _u64, _u32, _u64]),
+    'set': (_Setting, [_u64, _u32, _u64, _u64, _u32]),
+    'set_cut': (_Setting, [_u64, _u32, _u64, _u64, _u32, _u64]),
     'delete': (_u32, [_u64]),
     'delete_cut': (_u32, [_u64, _u64]),
     'evict': (_Evicting, [_size]),
@@ -218,26 +225,27 @@ class Table:
         r = self._call('find', _number(animal, 64, 'animal'))
         return r.place if r.kind != 0 else None
 
-    def _set(self, name, animal, permission, now, standing, *k):
+    def _set(self, name, animal, permission, issued, now, standing, *k):
         r = self._call(name, _number(animal, 64, 'animal'), _number(permission, 32, 'permission'),
-                       _number(now, 64, 'now'), standing, *(_number(stores, 64, 'k') for stores in k))
+                       _number(issued, 64, 'issued'), _number(now, 64, 'now'), standing,
+                       *(_number(stores, 64, 'k') for stores in k))
         return Stored(r.visits, r.moves)
 
-    def set(self, animal, permission, now):
-        """Stores a permission with the stamp now, over the one that is held."""
-        return self._set('set', animal, permission, now, 0)
+    def set(self, animal, permission, issued, now):
+        """Stores a permission with the stamp issued, over the one that is held unless that has a later stamp."""
+        return self._set('set', animal, permission, issued, now, 0)
 
-    def set_standing(self, animal, permission):
-        """Stores a standing permission: it is always fresh, with age 0."""
-        return self._set('set', animal, permission, 0, 1)
+    def set_standing(self, animal, permission, issued, now):
+        """Stores a standing permission, over any: always fresh, with age 0. Its minutes are tested and then dropped."""
+        return self._set('set', animal, permission, issued, now, 1)
 
-    def set_cut(self, animal, permission, now, k):
+    def set_cut(self, animal, permission, issued, now, k):
         """Set, of which only the first k stores are made, as a loss of power leaves it."""
-        return self._set('set_cut', animal, permission, now, 0, k)
+        return self._set('set_cut', animal, permission, issued, now, 0, k)
 
-    def set_standing_cut(self, animal, permission, k):
+    def set_standing_cut(self, animal, permission, issued, now, k):
         """Set of a standing permission, of which only the first k stores are made."""
-        return self._set('set_cut', animal, permission, 0, 1, k)
+        return self._set('set_cut', animal, permission, issued, now, 1, k)
 
     def delete(self, animal):
         """Takes the animal's entry away."""

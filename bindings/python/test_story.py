@@ -50,7 +50,7 @@ class Story(unittest.TestCase):
 
     def test_ages(self):
         table = made(32, 4, 32)
-        self.assertEqual(table.set(7, 5, 100), Stored(1, 0))
+        self.assertEqual(table.set(7, 5, 100, 100), Stored(1, 0))
         self.assertEqual(table.read(7, 720, 820), fresh(5, 720))
         self.assertEqual(table.read(7, 720, 821), old(721))
         self.assertEqual(table.read(7, 720, 99), Reading(AHEAD))
@@ -58,59 +58,142 @@ class Story(unittest.TestCase):
         self.assertEqual(table.read(7, LARGEST_LIMIT, 10180), fresh(5, 10080))
         self.refused(3, table.read, 7, LARGEST_LIMIT + 1, 100)
         self.refused(3, table.read, 7, 720, 2 ** 64 - 1)
-        self.refused(3, table.set, 7, 5, 2 ** 64 - 1)
+        self.refused(3, table.set, 7, 5, 100, 2 ** 64 - 1)
         self.refused(2, table.read, 0, 720, 100)
-        self.assertEqual(table.set_standing(7, 6), Stored(0, 0))
+        self.assertEqual(table.set_standing(7, 6, 100, 100), Stored(0, 0))
         self.assertEqual(table.read(7, 0, 2 ** 64 - 2), fresh(6, 0))
         self.assertEqual(table.items[:4], [7, 6, STANDING, 1])
 
     def test_the_network_drops(self):
         table = made(32, 4, 32)
-        self.assertEqual(table.set(4711, 1, 100), Stored(1, 0))
-        self.assertEqual(table.set(4712, 1, 100), Stored(1, 0))
-        self.assertEqual(table.set(4713, 2, 100), Stored(1, 0))
-        self.assertEqual(table.set_standing(900, 2), Stored(1, 0))
+        self.assertEqual(table.set(4711, 1, 100, 100), Stored(1, 0))
+        self.assertEqual(table.set(4712, 1, 100, 100), Stored(1, 0))
+        self.assertEqual(table.set(4713, 2, 100, 100), Stored(1, 0))
         self.assertEqual(table.serve(4711, 720, 130), fresh(1, 30))
+        self.assertEqual(table.serve(4712, 720, 130), fresh(1, 30))
         self.assertEqual(table.serve(4713, 720, 130), fresh(2, 30))
-        self.assertEqual(table.serve(900, 720, 130), fresh(2, 0))
         self.assertEqual(table.read(4712, 720, 200), fresh(1, 100))
         self.assertEqual(table.serve(4711, 720, 820), fresh(1, 720))
         self.assertEqual(table.serve(4711, 720, 821), old(721))
         self.assertEqual(lane(table.serve(4711, 720, 821)), HOLDING)
         self.assertEqual(table.serve(4712, 720, 840), old(740))
+        self.assertEqual(table.serve(4713, 720, 840), old(740))
+        self.assertEqual(table.set_standing(900, 2, 840, 840), Stored(1, 0))
         self.assertEqual(table.serve(900, 720, 840), fresh(2, 0))
         self.assertEqual(table.serve(4799, 720, 840), Reading(ABSENT))
         self.assertEqual(table.read(4711, 10080, 840), fresh(1, 740))
         self.refused(3, table.read, 4711, 10081, 840)
 
         # The network is back: 4712 was treated, and her fresh permission is to hold her.
-        self.assertEqual(table.set(4711, 1, 900), Stored(0, 0))
-        self.assertEqual(table.set(4712, 0, 900), Stored(0, 0))
-        self.assertEqual(table.set(4713, 2, 900), Stored(0, 0))
-        self.assertEqual(table.serve(4712, 720, 905), fresh(0, 5))
-        self.assertEqual(lane(table.serve(4711, 720, 905)), MILKING)
-        self.assertEqual(lane(table.serve(4712, 720, 905)), HOLDING)
-        self.assertEqual(lane(table.serve(4713, 720, 905)), GRAZING)
-        self.assertEqual(table.set(4714, 1, 900), Stored(1, 0))
+        self.assertEqual(table.set(4711, 1, 890, 900), Stored(0, 0))
+        self.assertEqual(table.set(4712, 0, 890, 900), Stored(0, 0))
+        # Yesterday's list comes behind it. Where today's is held it is late; else it is stored, and old at once.
+        self.refused(11, table.set, 4711, 1, 100, 902)
+        self.refused(11, table.set, 4712, 1, 100, 902)
+        self.assertEqual(table.set(4713, 2, 100, 902), Stored(0, 0))
+        self.assertEqual(table.set(4714, 1, 100, 902), Stored(1, 0))
+        self.assertEqual(table.serve(4711, 720, 905), fresh(1, 15))
+        self.assertEqual(table.serve(4712, 720, 905), fresh(0, 15))
+        self.assertEqual(table.serve(4713, 720, 905), old(805))
+        self.assertEqual(table.serve(4714, 720, 905), old(805))
+        self.assertEqual(table.set(4713, 2, 890, 906), Stored(0, 0))
+        self.assertEqual(table.set(4714, 1, 890, 906), Stored(0, 0))
+        self.assertEqual(table.serve(4713, 720, 910), fresh(2, 20))
+        self.assertEqual(lane(table.serve(4711, 720, 910)), MILKING)
+        self.assertEqual(lane(table.serve(4712, 720, 910)), HOLDING)
+        self.assertEqual(lane(table.serve(4713, 720, 910)), GRAZING)
+        self.assertEqual(table.serve(4714, 720, 910), fresh(1, 20))
         self.assertEqual(table.read(4711, 720, 99), Reading(AHEAD))
-        self.assertEqual(table.set(4715, 1, 100), Stored(1, 0))
+        self.assertEqual(table.set(4715, 1, 100, 100), Stored(1, 0))
+        self.assertEqual(table.read(4715, 720, 99), Reading(AHEAD))
         self.assertIsNone(table.delete(4713))
         self.refused(7, table.delete, 4713)
         self.assertIsNone(table.find(4713))
         self.assertEqual(table.find(4715), 5)
 
         self.refused(9, table.list, 99)
-        self.assertEqual(table.list(104).hex(), '6712000000000000010000008403000000000000'
-                                                '6812000000000000000000008403000000000000'
+        self.assertEqual(table.list(104).hex(), '6712000000000000010000007a03000000000000'
+                                                '6812000000000000000000007a03000000000000'
                                                 '840300000000000002000000ffffffffffffffff'
-                                                '6a12000000000000010000008403000000000000'
+                                                '6a12000000000000010000007a03000000000000'
                                                 '6b12000000000000010000006400000000000000')
-        self.assertEqual(records(table.list()), [Record(4711, 1, 900), Record(4712, 0, 900), Record(900, 2, STANDING),
-                                                 Record(4714, 1, 900), Record(4715, 1, 100)])
+        self.assertEqual(records(table.list()), [Record(4711, 1, 890), Record(4712, 0, 890), Record(900, 2, STANDING),
+                                                 Record(4714, 1, 890), Record(4715, 1, 100)])
+
+    def holding(self):
+        """Animal 7 has permission 5, issued in minute 100 and stored in minute 300; she was not here since."""
+        table = made(32, 4, 4)
+        self.assertEqual(table.set(7, 5, 100, 300), Stored(1, 0))
+        table.items[3] = 0
+        return table
+
+    def unchanged(self, number, table, animal, issued, now, standing=False):
+        """A set and its cut form refuse alike, and leave every word as it was."""
+        before = table.slots[:], table.counters[:], table.items[:]
+        self.refused(number, table.set_standing if standing else table.set, animal, 9, issued, now)
+        self.refused(number, table.set_standing_cut if standing else table.set_cut, animal, 9, issued, now, 5)
+        self.assertEqual((table.slots[:], table.counters[:], table.items[:]), before)
+
+    def test_a_late_list(self):
+        table = self.holding()
+        self.unchanged(11, table, 7, 99, 300)
+        self.assertEqual(table.read(7, 720, 300), fresh(5, 200))
+        # Not held, and no place: that is another refusal.
+        self.unchanged(5, table, 8, 99, 300)
+        # The same minute is stored, and so is a later one, by the cut form too.
+        self.assertEqual(table.set(7, 6, 100, 300), Stored(0, 0))
+        self.assertEqual(table.items[:4], [7, 6, 100, 1])
+        self.assertEqual(table.set_cut(7, 4, 101, 300, 5), Stored(0, 0))
+        self.assertEqual(table.items[:4], [7, 4, 101, 1])
+
+    def test_issued_after_now(self):
+        table = self.holding()
+        for standing in (False, True):
+            for animal in (7, 8):
+                self.unchanged(3, table, animal, 301, 300, standing)
+                self.unchanged(3, table, animal, 300, 2 ** 64 - 1, standing)
+        self.assertEqual(table.set(7, 6, issued=300, now=300), Stored(0, 0))
+        # The minutes swapped.
+        self.unchanged(3, table, 7, 400, 310)
+
+    def test_standing_is_never_late(self):
+        table = self.holding()
+        self.assertEqual(table.set_standing(7, 6, 50, 300), Stored(0, 0))
+        self.assertEqual(table.items[:4], [7, 6, STANDING, 1])
+        # Nor is a late list over a standing permission.
+        self.assertEqual(table.set(7, 5, 50, 300), Stored(0, 0))
+        self.assertEqual(table.items[:4], [7, 5, 50, 1])
+
+    def test_late_and_nothing_held(self):
+        table = self.holding()
+        self.unchanged(11, table, 7, 90, 300)
+        table.delete(7)
+        self.assertEqual(table.set(7, 1, 90, 300), Stored(1, 0))
+        self.assertEqual(table.read(7, 720, 300), fresh(1, 210))
+        table.evict(0)
+        self.assertEqual(table.set(7, 1, 80, 300), Stored(1, 0))
+        self.assertEqual(table.read(7, 720, 300), fresh(1, 220))
+
+    def test_a_clock_that_ran_ahead(self):
+        table = self.holding()
+        self.assertEqual(table.set(7, 1, 5000, 5000), Stored(0, 0))
+        # Put right, it makes every true list late, until she is deleted.
+        self.assertEqual(table.read(7, 720, 900), Reading(AHEAD))
+        self.unchanged(11, table, 7, 900, 900)
+        self.assertEqual(table.read(7, 720, 5000), fresh(1, 0))
+        table.delete(7)
+        self.assertEqual(table.set(7, 1, 900, 900), Stored(1, 0))
+        self.assertEqual(table.read(7, 720, 900), fresh(1, 0))
+
+    def test_a_caller_of_before(self):
+        table = self.holding()
+        for call, numbers in ((table.set, (7, 1, 300)), (table.set_standing, (7, 1)),
+                              (table.set_cut, (7, 1, 300, 5)), (table.set_standing_cut, (7, 1, 5))):
+            self.assertRaises(TypeError, call, *numbers)
 
     def test_records(self):
         table = made(8, 1, 4)
-        table.set(1, 5, 2)
+        table.set(1, 5, 2, 2)
         self.assertEqual(table.list().hex(), '01000000000000000500000002' + 14 * '0')
         every = bytes.fromhex('0807060504030201fcfdfeff8877665544332291')
         self.assertEqual(records(every), [Record(0x0102030405060708, 0xfffefdfc, 0x9122334455667788)])
@@ -118,30 +201,30 @@ class Story(unittest.TestCase):
     def test_room_is_made(self):
         table = made(16, 4, 36)
         for animal in (358, 687, 1012, 1334, 248, 734, 913, 1710):
-            self.assertEqual(table.set(animal, 1, 100), Stored(1, 0))
-        self.assertEqual(table.set(5, 1, 100), Stored(5, 1))
+            self.assertEqual(table.set(animal, 1, 100, 100), Stored(1, 0))
+        self.assertEqual(table.set(5, 1, 100, 100), Stored(5, 1))
         self.assertEqual((table.slots[12], table.counters[0]), (131074, 20))
         self.assertEqual(table.read(1012, 720, 100), fresh(1, 0))
-        self.refused(5, table.set, 6, 1, 100)
+        self.refused(5, table.set, 6, 1, 100, 100)
 
         table = made(8, 1, 36)
         for animal in range(1, 9):
-            self.assertEqual(table.set(animal, 1, 100), Stored(1, 0))
-        self.refused(6, table.set, 9, 1, 100)
+            self.assertEqual(table.set(animal, 1, 100, 100), Stored(1, 0))
+        self.refused(6, table.set, 9, 1, 100, 100)
         table.delete(4)
-        self.assertEqual(table.set(9, 1, 100), Stored(2, 0))
+        self.assertEqual(table.set(9, 1, 100, 100), Stored(2, 0))
 
     def test_the_hand(self):
         table = made(8, 1, 12)
         self.refused(7, table.evict, 0)
         for animal in (1, 2, 3):
-            table.set(animal, 1, 100)
+            table.set(animal, 1, 100, 100)
         self.refused(1, table.evict, 3)
         self.assertEqual(table.evict(1), Evicted(2, 4, 2))
 
         # Alone, and here lately: two turns. First with no more than the mark taken from her.
         table.fresh()
-        table.set(1, 1, 100)
+        table.set(1, 1, 100, 100)
         self.assertEqual(table.evict_cut(1, 1), Evicted(1, 6, 1))
         self.assertEqual(table.items[:4], [1, 1, 100, 0])
         self.assertEqual(table.serve(1, 720, 100), fresh(1, 0))
@@ -154,17 +237,17 @@ class Story(unittest.TestCase):
             with self.subTest(k=k):
                 table = made(16, 1, 20)
                 # Seven stores of a new entry: busy between the first and the last.
-                self.assertEqual(table.set_cut(7, 5, 100, k), Stored(1, 0))
+                self.assertEqual(table.set_cut(7, 5, 90, 100, k), Stored(1, 0))
                 if 0 < k < 7:
                     self.refused(8, table.read, 7, 720, 100)
-                    self.refused(8, table.set, 7, 5, 100)
+                    self.refused(8, table.set, 7, 5, 100, 100)
                     self.refused(8, table.delete, 7)
                     self.refused(8, table.find, 7)
                 else:
-                    self.assertEqual(table.read(7, 720, 100), Reading(ABSENT) if k == 0 else fresh(5, 0))
+                    self.assertEqual(table.read(7, 720, 100), Reading(ABSENT) if k == 0 else fresh(5, 10))
                 # Only fresh helps.
                 table.fresh()
-                self.assertEqual(table.set_standing_cut(7, 5, 7), Stored(1, 0))
+                self.assertEqual(table.set_standing_cut(7, 5, 90, 100, 7), Stored(1, 0))
                 # Seven stores of a delete.
                 table.delete_cut(7, k)
                 if 0 < k < 7:
@@ -174,7 +257,7 @@ class Story(unittest.TestCase):
 
     def test_a_damaged_word(self):
         table = made(16, 4, 20)
-        table.set(1, 1, 100)
+        table.set(1, 1, 100, 100)
         for word in (4, 16777216, 65541):
             table.slots[1] = word
             self.refused(4, table.read, 1, 720, 110)
@@ -188,13 +271,15 @@ class Story(unittest.TestCase):
             self.assertEqual(lane(held), HOLDING)
 
     def test_refusals(self):
-        self.assertEqual(list(REFUSALS), list(range(1, 11)))
+        self.assertEqual(list(REFUSALS), list(range(1, 12)))
         self.assertEqual(str(Refusal(8)), 'refusal 8: busy: a write was cut off')
-        self.assertEqual(str(Refusal(11)), 'refusal 11: no refusal number')
+        self.assertEqual(str(Refusal(11)), 'refusal 11: late: a permission that was issued later is held')
+        self.assertEqual(str(Refusal(12)), 'refusal 12: no refusal number')
 
     def test_numbers_out_of_range(self):
         table = made(8, 1, 4)
-        for call in (lambda: table.set(2 ** 64 + 1, 1, 1), lambda: table.set(1, 2 ** 32, 1),
+        for call in (lambda: table.set(2 ** 64 + 1, 1, 1, 1), lambda: table.set(1, 2 ** 32, 1, 1),
+                     lambda: table.set(1, 1, -1, 1), lambda: table.set(1, 1, 1, 2 ** 64),
                      lambda: table.read(1, -1, 1), lambda: table.read(1, 1.5, 1), lambda: table.evict(-1)):
             self.assertRaises(ValueError, call)
         self.assertEqual(table.list(), b'')
@@ -202,7 +287,7 @@ class Story(unittest.TestCase):
 
     def test_one_call_at_a_time(self):
         table = made(8, 1, 4)
-        for call, numbers in ((table.set, (1, 1, 100)), (table.read, (1, 720, 100)), (table.list, ())):
+        for call, numbers in ((table.set, (1, 1, 100, 100)), (table.read, (1, 720, 100)), (table.list, ())):
             task = threading.Thread(target=call, args=numbers)
             with table._lock:
                 task.start()

@@ -34,16 +34,17 @@ static void unlock(void) {
 /* The permission that the office gives a cow on a day: milking, grazing and hold in turn. */
 static uint32_t given(uint64_t cow, uint64_t day) { return (uint32_t)((cow + day) % 3); }
 
-/* Stores one permission. Where the table is full, a cow that was not here lately goes. All in one locked part. */
+/* Stores one permission, issued this minute. Where the table is full, a cow that was not here lately goes. All in one
+   locked part. */
 static uint32_t store(uint64_t cow, uint32_t permission, uint64_t minute) {
     BoughladderSetting stored;
     lock();
     gate.minute = minute;
-    stored = boughladder_table_set(&gate.table, cow, permission, minute);
+    stored = boughladder_table_set(&gate.table, cow, permission, minute, minute);
     if (stored.refusal == BOUGHLADDER_NO_PLACE || stored.refusal == BOUGHLADDER_NO_ROOM) {
         BoughladderEvicting gone = boughladder_table_evict(&gate.table, gate.hand);
         gate.hand = gone.hand;
-        if (gone.refusal == 0) stored = boughladder_table_set(&gate.table, cow, permission, minute);
+        if (gone.refusal == 0) stored = boughladder_table_set(&gate.table, cow, permission, minute, minute);
     }
     unlock();
     return stored.refusal;

@@ -1,7 +1,8 @@
 /*
  * Checks include/boughladder.h and libboughladder.a against each other: the layout of each struct, each call with known
- * answers (the order's examples), the sizes and limits, the calls over a table beside the plain ones, and garbage
- * memory of any length in blocks of their own, so that valgrind sees a read or a write outside.
+ * answers (the order's examples), late lists and the order of set's refusals, the sizes and limits, the calls over a
+ * table beside the plain ones, and garbage memory of any length in blocks of their own, so that valgrind sees a read or
+ * a write outside.
  * `check ROUNDS` prints one line, `N checks passed`, or the checks that failed.
  */
 #include <stdio.h>
@@ -146,11 +147,11 @@ static void sizes(void) {
     CHECK(t.slots == slots && t.slots_length == 16 && t.counters == counters && t.counters_length == 3);
     CHECK(t.items == items && t.items_length == 8);
     CHECK(boughladder_table_fresh(&t) == 0);
-    CHECK(boughladder_table_set(&t, 7, 5, 0).refusal == 0);
+    CHECK(boughladder_table_set(&t, 7, 5, 0, 0).refusal == 0);
     CHECK(reads(boughladder_table_read(&t, 7, BOUGHLADDER_LARGEST_LIMIT, 1), 0, BOUGHLADDER_FRESH, 5, 1));
     CHECK(boughladder_table_read(&t, 7, BOUGHLADDER_LARGEST_LIMIT + 1, 1).refusal == BOUGHLADDER_BAD_TIME);
     CHECK(boughladder_table_read(&t, 7, 0, BOUGHLADDER_STANDING).refusal == BOUGHLADDER_BAD_TIME);
-    CHECK(boughladder_table_set_standing(&t, 7, 5).refusal == 0 && items[2] == BOUGHLADDER_STANDING);
+    CHECK(boughladder_table_set_standing(&t, 7, 5, 1, 1).refusal == 0 && items[2] == BOUGHLADDER_STANDING);
     CHECK(reads(boughladder_table_read(&t, 7, 0, 0), 0, BOUGHLADDER_FRESH, 5, 0));
     sprintf(version, "%d.%d.%d", BOUGHLADDER_VERSION_MAJOR, BOUGHLADDER_VERSION_MINOR, BOUGHLADDER_VERSION_PATCH);
     CHECK(strcmp(version, BOUGHLADDER_VERSION) == 0);
@@ -167,8 +168,8 @@ static void nothing_lent(void) {
         CHECK(reads(boughladder_table_read(lent[k], 1, 0, 0), BOUGHLADDER_BAD_SHAPE, 0, 0, 0));
         CHECK(reads(boughladder_table_serve(lent[k], 1, 0, 0), BOUGHLADDER_BAD_SHAPE, 0, 0, 0));
         CHECK(finds(boughladder_table_find(lent[k], 1), BOUGHLADDER_BAD_SHAPE, 0, 0));
-        CHECK(sets(boughladder_table_set(lent[k], 1, 1, 1), BOUGHLADDER_BAD_SHAPE, 0, 0));
-        CHECK(sets(boughladder_table_set_cut(lent[k], 1, 1, 1, 1), BOUGHLADDER_BAD_SHAPE, 0, 0));
+        CHECK(sets(boughladder_table_set(lent[k], 1, 1, 1, 1), BOUGHLADDER_BAD_SHAPE, 0, 0));
+        CHECK(sets(boughladder_table_set_cut(lent[k], 1, 1, 1, 1, 1), BOUGHLADDER_BAD_SHAPE, 0, 0));
         CHECK(boughladder_table_delete(lent[k], 1) == BOUGHLADDER_BAD_SHAPE);
         CHECK(boughladder_table_delete_cut(lent[k], 1, 1) == BOUGHLADDER_BAD_SHAPE);
         CHECK(evicts(boughladder_table_evict(lent[k], 0), BOUGHLADDER_BAD_SHAPE, 0, 0, 0));
@@ -177,7 +178,7 @@ static void nothing_lent(void) {
     }
     CHECK(boughladder_fresh(LENT(t)) == 0);
     CHECK(lists(boughladder_list(LENT(t), NULL, 0), 0, 0));
-    CHECK(boughladder_set(LENT(t), 1, 1, 1, 0).refusal == 0);
+    CHECK(boughladder_set(LENT(t), 1, 1, 1, 1, 0).refusal == 0);
     CHECK(lists(boughladder_list(LENT(t), NULL, 0), BOUGHLADDER_SHORT_BUFFER, 0));
     CHECK(lists(boughladder_list(LENT(t), record, sizeof record), 0, 1));
     give_back(&t);
@@ -185,7 +186,7 @@ static void nothing_lent(void) {
 
 /* Only a fresh permission leads anywhere, and only by its bits. */
 static void lanes(void) {
-    for (unsigned refusal = 0; refusal <= 11; refusal++)
+    for (unsigned refusal = 0; refusal <= 12; refusal++)
         for (unsigned kind = 0; kind <= 9; kind++)
             for (uint32_t permission = 0; permission < 16; permission++) {
                 /* The other bits say nothing. */
@@ -200,11 +201,12 @@ static void lanes(void) {
 }
 
 static void texts(void) {
-    for (uint32_t a = 0; a <= 10; a++) {
-        CHECK(strcmp(boughladder_refusal_text(a), boughladder_refusal_text(11)) != 0);
+    for (uint32_t a = 0; a <= 11; a++) {
+        CHECK(strcmp(boughladder_refusal_text(a), boughladder_refusal_text(12)) != 0);
         for (uint32_t b = 0; b < a; b++) CHECK(strcmp(boughladder_refusal_text(a), boughladder_refusal_text(b)) != 0);
     }
-    CHECK(strcmp(boughladder_refusal_text(11), "no refusal number") == 0);
+    CHECK(strstr(boughladder_refusal_text(BOUGHLADDER_LATE), "issued later") != NULL);
+    CHECK(strcmp(boughladder_refusal_text(12), "no refusal number") == 0);
     CHECK(strcmp(boughladder_refusal_text(UINT32_MAX), "no refusal number") == 0);
 }
 
@@ -222,7 +224,7 @@ static void records(void) {
         Table t = lend(16, 4, BOUGHLADDER_ITEMS(12));
         CHECK(boughladder_fresh(LENT(t)) == 0);
         for (uint32_t k = 1; k <= 12; k++)
-            CHECK(boughladder_set(LENT(t), k * 0x123456789u, k * 0x11111u, k, k == 9).refusal == 0);
+            CHECK(boughladder_set(LENT(t), k * 0x123456789u, k * 0x11111u, k, 12, k == 9).refusal == 0);
         CHECK(lists(boughladder_list(LENT(t), list + at, BOUGHLADDER_LIST_BYTES(12)), 0, 12));
         for (size_t k = 0; k < 12; k++) {
             r = boughladder_record(list + at, k);
@@ -236,7 +238,7 @@ static void records(void) {
 static void ages(void) {
     Table t = lend(16, 4, 36);
     CHECK(boughladder_fresh(LENT(t)) == 0);
-    CHECK(sets(boughladder_set(LENT(t), 7, 5, 100, 0), 0, 1, 0));
+    CHECK(sets(boughladder_set(LENT(t), 7, 5, 100, 100, 0), 0, 1, 0));
     CHECK(reads(boughladder_read(LENT(t), 7, 720, 820), 0, BOUGHLADDER_FRESH, 5, 720));
     CHECK(reads(boughladder_read(LENT(t), 7, 720, 821), 0, BOUGHLADDER_OLD, 0, 721));
     CHECK(reads(boughladder_read(LENT(t), 7, 720, 99), 0, BOUGHLADDER_AHEAD, 0, 0));
@@ -245,17 +247,17 @@ static void ages(void) {
     CHECK(reads(boughladder_read(LENT(t), 7, 10080, 10180), 0, BOUGHLADDER_FRESH, 5, 10080));
     CHECK(reads(boughladder_read(LENT(t), 7, 10081, 100), BOUGHLADDER_BAD_TIME, 0, 0, 0));
     CHECK(reads(boughladder_read(LENT(t), 7, 720, UINT64_MAX), BOUGHLADDER_BAD_TIME, 0, 0, 0));
-    CHECK(sets(boughladder_set(LENT(t), 7, 6, UINT64_MAX, 0), BOUGHLADDER_BAD_TIME, 0, 0));
+    CHECK(sets(boughladder_set(LENT(t), 7, 6, UINT64_MAX, UINT64_MAX, 0), BOUGHLADDER_BAD_TIME, 0, 0));
 
     /* An update; then a standing permission, which is fresh at any minute. Any standing but 0 will do. */
-    CHECK(sets(boughladder_set(LENT(t), 7, UINT32_MAX, 200, 0), 0, 0, 0));
+    CHECK(sets(boughladder_set(LENT(t), 7, UINT32_MAX, 200, 200, 0), 0, 0, 0));
     CHECK(reads(boughladder_read(LENT(t), 7, 0, 200), 0, BOUGHLADDER_FRESH, UINT32_MAX, 0));
-    CHECK(sets(boughladder_set(LENT(t), 7, 6, 200, 0x80000000u), 0, 0, 0));
+    CHECK(sets(boughladder_set(LENT(t), 7, 6, 200, 200, 0x80000000u), 0, 0, 0));
     CHECK(reads(boughladder_read(LENT(t), 7, 0, UINT64_MAX - 1), 0, BOUGHLADDER_FRESH, 6, 0));
     CHECK(t.items[2] == UINT64_MAX);
 
     /* Serve marks where the answer is fresh, and nowhere else. */
-    CHECK(sets(boughladder_set(LENT(t), 7, 5, 100, 0), 0, 0, 0));
+    CHECK(sets(boughladder_set(LENT(t), 7, 5, 100, 100, 0), 0, 0, 0));
     CHECK(t.items[0] == 7 && t.items[1] == 5 && t.items[2] == 100 && t.items[3] == 1);
     t.items[3] = 0;
     CHECK(reads(boughladder_serve(LENT(t), 7, 720, 821), 0, BOUGHLADDER_OLD, 0, 721) && t.items[3] == 0);
@@ -278,6 +280,103 @@ static void ages(void) {
     give_back(&t);
 }
 
+/* Set and its cut form refuse alike, for every k, and change nothing. */
+static int refuses(Table *t, uint64_t animal, uint64_t issued, uint64_t now, uint32_t standing, uint32_t refusal) {
+    Table before = lend(t->s, t->c, t->i);
+    int holds;
+    copy(&before, t);
+    holds = sets(boughladder_set(LENT(*t), animal, 9, issued, now, standing), refusal, 0, 0) && same(t, &before);
+    for (uint64_t k = 0; k <= 8; k++)
+        holds = holds && sets(boughladder_set_cut(LENT(*t), animal, 9, issued, now, standing, k), refusal, 0, 0) &&
+                same(t, &before);
+    give_back(&before);
+    return holds;
+}
+
+/* Age runs from issue: the stamp is the issue minute, and a late list is refused. */
+static void issues(void) {
+    Table t = lend(16, 4, 36);
+    CHECK(boughladder_fresh(LENT(t)) == 0);
+    CHECK(sets(boughladder_set(LENT(t), 7, 5, 100, 300, 0), 0, 1, 0) && t.items[2] == 100);
+    CHECK(reads(boughladder_read(LENT(t), 7, 720, 820), 0, BOUGHLADDER_FRESH, 5, 720));
+    CHECK(reads(boughladder_read(LENT(t), 7, 720, 821), 0, BOUGHLADDER_OLD, 0, 721));
+
+    /* A minute earlier is late, and she does not count as here lately; the same minute and a later one are stored. */
+    t.items[3] = 0;
+    CHECK(refuses(&t, 7, 99, 300, 0, BOUGHLADDER_LATE));
+    CHECK(refuses(&t, 7, 0, UINT64_MAX - 1, 0, BOUGHLADDER_LATE));
+    CHECK(sets(boughladder_set(LENT(t), 7, 6, 100, 300, 0), 0, 0, 0));
+    CHECK(t.items[1] == 6 && t.items[2] == 100 && t.items[3] == 1);
+    CHECK(sets(boughladder_set_cut(LENT(t), 7, 7, 101, 300, 0, 5), 0, 0, 0));
+    CHECK(t.items[1] == 7 && t.items[2] == 101);
+
+    /* Issued later than now: held or not, standing or not. */
+    for (uint32_t standing = 0; standing <= 1; standing++) {
+        CHECK(refuses(&t, 7, 301, 300, standing, BOUGHLADDER_BAD_TIME));
+        CHECK(refuses(&t, 8, 301, 300, standing, BOUGHLADDER_BAD_TIME));
+        CHECK(refuses(&t, 7, UINT64_MAX, UINT64_MAX - 1, standing, BOUGHLADDER_BAD_TIME));
+        CHECK(refuses(&t, 7, 200, UINT64_MAX, standing, BOUGHLADDER_BAD_TIME));
+    }
+    CHECK(sets(boughladder_set(LENT(t), 7, 5, 300, 300, 0), 0, 0, 0));
+
+    /* Standing over a later stamp, and a late list over a standing entry. */
+    CHECK(sets(boughladder_set(LENT(t), 7, 6, 200, 400, 1), 0, 0, 0) && t.items[2] == BOUGHLADDER_STANDING);
+    CHECK(sets(boughladder_set(LENT(t), 7, 5, 100, 400, 0), 0, 0, 0) && t.items[2] == 100);
+
+    /* Nothing is held after a delete or an eviction: then a late list is stored, and she is fresh by it. */
+    CHECK(sets(boughladder_set(LENT(t), 7, 0, 500, 500, 0), 0, 0, 0));
+    CHECK(refuses(&t, 7, 100, 510, 0, BOUGHLADDER_LATE));
+    CHECK(boughladder_delete(LENT(t), 7) == 0);
+    CHECK(sets(boughladder_set(LENT(t), 7, 1, 100, 510, 0), 0, 1, 0));
+    CHECK(reads(boughladder_read(LENT(t), 7, 720, 510), 0, BOUGHLADDER_FRESH, 1, 410));
+    CHECK(sets(boughladder_set(LENT(t), 7, 0, 520, 520, 0), 0, 0, 0));
+    CHECK(boughladder_evict(LENT(t), 0).victim == 7);
+    CHECK(sets(boughladder_set(LENT(t), 7, 1, 100, 530, 0), 0, 1, 0));
+
+    /* The clock ran ahead: every true list is late until she is deleted, or until the clock is there. */
+    CHECK(sets(boughladder_set(LENT(t), 7, 1, 5000, 5000, 0), 0, 0, 0));
+    CHECK(reads(boughladder_read(LENT(t), 7, 720, 900), 0, BOUGHLADDER_AHEAD, 0, 0));
+    CHECK(refuses(&t, 7, 900, 900, 0, BOUGHLADDER_LATE));
+    CHECK(reads(boughladder_read(LENT(t), 7, 720, 5000), 0, BOUGHLADDER_FRESH, 1, 0));
+    CHECK(refuses(&t, 7, 4999, 5001, 0, BOUGHLADDER_LATE));
+    CHECK(sets(boughladder_set(LENT(t), 7, 1, 5001, 5001, 0), 0, 0, 0));
+    CHECK(boughladder_delete(LENT(t), 7) == 0);
+    CHECK(sets(boughladder_set(LENT(t), 7, 1, 900, 900, 0), 0, 1, 0));
+
+    /* Swapped minutes: refusal 3, or, where the list is from later than now, a wrong stamp. */
+    CHECK(refuses(&t, 7, 950, 910, 0, BOUGHLADDER_BAD_TIME));
+    CHECK(sets(boughladder_set(LENT(t), 7, 1, 950, 1000, 0), 0, 0, 0) && t.items[2] == 950);
+    give_back(&t);
+}
+
+/* Set refuses in the order 1, 2, 3, 8, 4, 11, 5: all reasons at once, and one after the other is taken away. One place
+   and two buckets, so every slot is a home, and the table is full. */
+static void turns(void) {
+    Table t = lend(8, 1, 4);
+    size_t slot = 0;
+    CHECK(boughladder_fresh(LENT(t)) == 0);
+    CHECK(boughladder_set(LENT(t), 7, 5, 100, 100, 0).refusal == 0);
+    while (t.slots[slot] != 0) slot++;
+    t.slots[slot] = 65537, t.counters[0] = 3;
+    t.i = 3;
+    CHECK(refuses(&t, 0, 99, 98, 0, BOUGHLADDER_BAD_SHAPE));
+    t.i = 4;
+    CHECK(refuses(&t, 0, 99, 98, 0, BOUGHLADDER_NO_ANIMAL));
+    for (uint64_t animal = 7; animal <= 8; animal++) {
+        t.slots[slot] = 65537, t.counters[0] = 3;
+        CHECK(refuses(&t, animal, 99, 98, 0, BOUGHLADDER_BAD_TIME));
+        CHECK(refuses(&t, animal, 99, 98, 1, BOUGHLADDER_BAD_TIME));
+        CHECK(refuses(&t, animal, 99, 99, 0, BOUGHLADDER_BUSY));
+        t.counters[0] = 4;
+        CHECK(refuses(&t, animal, 99, 99, 0, BOUGHLADDER_DAMAGED));
+        t.slots[slot] = 0;
+        /* Who is held is late, and no place is wanted for her; who is not held has none. */
+        CHECK(refuses(&t, animal, 99, 99, 0, animal == 7 ? BOUGHLADDER_LATE : BOUGHLADDER_NO_PLACE));
+    }
+    CHECK(sets(boughladder_set(LENT(t), 7, 9, 100, 100, 0), 0, 0, 0));
+    give_back(&t);
+}
+
 static void moves(void) {
     /* N = 4: one move after five visits. */
     static const uint64_t herd[8] = {358, 687, 1012, 1334, 248, 734, 913, 1710};
@@ -287,30 +386,30 @@ static void moves(void) {
     Table t = lend(16, 4, 36), u, v;
     uint32_t first, second;
     CHECK(boughladder_fresh(LENT(t)) == 0);
-    for (uint32_t k = 0; k < 8; k++) CHECK(sets(boughladder_set(LENT(t), herd[k], k, 100, 0), 0, 1, 0));
+    for (uint32_t k = 0; k < 8; k++) CHECK(sets(boughladder_set(LENT(t), herd[k], k, 100, 100, 0), 0, 1, 0));
     CHECK(t.counters[0] == 16);
-    CHECK(sets(boughladder_set(LENT(t), 5, 9, 100, 0), 0, 5, 1));
+    CHECK(sets(boughladder_set(LENT(t), 5, 9, 100, 100, 0), 0, 5, 1));
     for (size_t k = 0; k < 16; k++) CHECK(t.slots[k] == words[k]);
     CHECK(t.counters[0] == 20);
     for (uint32_t k = 0; k < 8; k++)
         CHECK(reads(boughladder_read(LENT(t), herd[k], 720, 100), 0, BOUGHLADDER_FRESH, k, 0));
     CHECK(reads(boughladder_read(LENT(t), 5, 720, 100), 0, BOUGHLADDER_FRESH, 9, 0));
-    CHECK(sets(boughladder_set(LENT(t), 6, 9, 100, 0), BOUGHLADDER_NO_PLACE, 0, 0));
+    CHECK(sets(boughladder_set(LENT(t), 6, 9, 100, 100, 0), BOUGHLADDER_NO_PLACE, 0, 0));
     give_back(&t);
 
     /* N = 2: eight animals fill both buckets. */
     u = lend(8, 1, 36);
     CHECK(boughladder_fresh(LENT(u)) == 0);
-    for (uint64_t a = 1; a <= 8; a++) CHECK(sets(boughladder_set(LENT(u), a, 1, 100, 0), 0, 1, 0));
-    CHECK(sets(boughladder_set(LENT(u), 9, 1, 100, 0), BOUGHLADDER_NO_ROOM, 0, 0));
+    for (uint64_t a = 1; a <= 8; a++) CHECK(sets(boughladder_set(LENT(u), a, 1, 100, 100, 0), 0, 1, 0));
+    CHECK(sets(boughladder_set(LENT(u), 9, 1, 100, 100, 0), BOUGHLADDER_NO_ROOM, 0, 0));
     give_back(&u);
 
     /* N = 4, one counter: two moves after twelve visits. */
     v = lend(16, 1, 52);
     CHECK(boughladder_fresh(LENT(v)) == 0);
-    for (uint32_t k = 0; k < 12; k++) CHECK(sets(boughladder_set(LENT(v), small[k], k, 100, 0), 0, 1, 0));
+    for (uint32_t k = 0; k < 12; k++) CHECK(sets(boughladder_set(LENT(v), small[k], k, 100, 100, 0), 0, 1, 0));
     first = v.slots[0], second = v.slots[13];
-    CHECK(sets(boughladder_set(LENT(v), 17, 9, 100, 0), 0, 12, 2));
+    CHECK(sets(boughladder_set(LENT(v), 17, 9, 100, 100, 0), 0, 12, 2));
     CHECK(v.slots[8] == second && v.slots[13] == first);
     give_back(&v);
 }
@@ -320,7 +419,7 @@ static void clocks(void) {
     Table t = lend(16, 4, 12), u;
     CHECK(boughladder_fresh(LENT(t)) == 0);
     CHECK(evicts(boughladder_evict(LENT(t), 1), BOUGHLADDER_NOBODY, 0, 0, 1));
-    for (uint64_t a = 1; a <= 3; a++) CHECK(boughladder_set(LENT(t), a, 1, 100, 0).refusal == 0);
+    for (uint64_t a = 1; a <= 3; a++) CHECK(boughladder_set(LENT(t), a, 1, 100, 100, 0).refusal == 0);
     CHECK(evicts(boughladder_evict(LENT(t), 3), BOUGHLADDER_BAD_SHAPE, 0, 0, 3));
     CHECK(evicts(boughladder_evict(LENT(t), SIZE_MAX), BOUGHLADDER_BAD_SHAPE, 0, 0, SIZE_MAX));
     CHECK(evicts(boughladder_evict(LENT(t), 1), 0, 2, 4, 2));
@@ -346,7 +445,7 @@ static void the_list(void) {
     memset(buffer, 0xee, sizeof buffer);
     CHECK(boughladder_fresh(LENT(t)) == 0);
     CHECK(lists(boughladder_list(LENT(t), buffer, 0), 0, 0));
-    CHECK(boughladder_set(LENT(t), 1, 5, 2, 0).refusal == 0);
+    CHECK(boughladder_set(LENT(t), 1, 5, 2, 2, 0).refusal == 0);
     CHECK(lists(boughladder_list(LENT(t), buffer, 19), BOUGHLADDER_SHORT_BUFFER, 0));
     CHECK(buffer[0] == 0xee);
     CHECK(lists(boughladder_list(LENT(t), buffer, 20), 0, 1));
@@ -363,7 +462,7 @@ static void cuts(void) {
         Table t = lend(16, 1, 36);
         BoughladderReading r;
         CHECK(boughladder_fresh(LENT(t)) == 0);
-        CHECK(sets(boughladder_set_cut(LENT(t), 7, 5, 100, 0, k), 0, 1, 0));
+        CHECK(sets(boughladder_set_cut(LENT(t), 7, 5, 100, 100, 0, k), 0, 1, 0));
         CHECK(t.counters[0] == (k == 0 ? 0u : k < 7 ? 1u : 2u));
         CHECK(t.items[0] == (k < 2 ? 0u : 7u) && t.items[1] == (k < 3 ? 0u : 5u));
         CHECK(t.items[2] == (k < 4 ? 0u : 100u) && t.items[3] == (k < 5 ? 0u : 1u));
@@ -373,10 +472,10 @@ static void cuts(void) {
                       : reads(r, 0, BOUGHLADDER_FRESH, 5, 0));
         if (0 < k && k < 7) {
             CHECK(boughladder_delete(LENT(t), 7) == BOUGHLADDER_BUSY);
-            CHECK(sets(boughladder_set(LENT(t), 7, 5, 100, 0), BOUGHLADDER_BUSY, 0, 0));
+            CHECK(sets(boughladder_set(LENT(t), 7, 5, 100, 100, 0), BOUGHLADDER_BUSY, 0, 0));
             CHECK(finds(boughladder_find(LENT(t), 7), BOUGHLADDER_BUSY, 0, 0));
             CHECK(boughladder_fresh(LENT(t)) == 0);
-            CHECK(sets(boughladder_set(LENT(t), 7, 5, 100, 0), 0, 1, 0));
+            CHECK(sets(boughladder_set(LENT(t), 7, 5, 100, 100, 0), 0, 1, 0));
         }
         give_back(&t);
     }
@@ -384,7 +483,7 @@ static void cuts(void) {
     for (uint64_t k = 0; k <= 9; k++) {
         Table t = lend(16, 1, 36);
         CHECK(boughladder_fresh(LENT(t)) == 0);
-        CHECK(boughladder_set(LENT(t), 7, 5, 100, 0).refusal == 0);
+        CHECK(boughladder_set(LENT(t), 7, 5, 100, 100, 0).refusal == 0);
         CHECK(boughladder_delete_cut(LENT(t), 8, k) == BOUGHLADDER_NOBODY);
         CHECK(boughladder_delete_cut(LENT(t), 7, k) == 0);
         CHECK(t.counters[0] == (k == 0 ? 2u : k < 7 ? 3u : 4u));
@@ -419,7 +518,7 @@ static void spoil(Table *t) {
     if (kind > 3) {
         uint64_t n = boughladder_fresh(LENT(*t)) == 0 ? any() % 60 : 0;
         for (; n > 0; n--)
-            CHECK(boughladder_set(LENT(*t), any() % 40, (uint32_t)n, any() % 40, n % 9 == 0).refusal != 1);
+            CHECK(boughladder_set(LENT(*t), any() % 40, (uint32_t)n, any() % 40, 40, n % 9 == 0).refusal != 1);
         for (size_t k = 3; k < t->i; k += 4) t->items[k] = any() % 2;
         if (kind == 5 && t->s > 0) t->slots[any() % t->s] ^= (uint32_t)1 << any() % 32;
         return;
@@ -432,12 +531,16 @@ static void spoil(Table *t) {
     for (size_t k = 0; k < t->i; k++) t->items[k] = kind == 3 && any() % 2 ? 0 : edge();
 }
 
+/* How many sets on garbage were late. */
+static unsigned long late;
+
 /* Every call on garbage: a refusal changes nothing, and the largest cut is the whole call. */
 static void garbage(size_t s, size_t c, size_t i) {
     Table t = lend(s, c, i), before = lend(s, c, i), whole = lend(s, c, i);
     size_t bytes = any() % 3 == 0 ? any() % 64 : 5 * i, hand = (size_t)(any() % 3 == 0 ? edge() : any() % (i / 4 + 1));
     uint8_t *buffer = (uint8_t *)block(bytes);
     uint64_t animal = edge(), limit = edge(), now = edge(), k = any() % 12;
+    uint64_t issued = any() % 4 == 0 ? edge() : any() % (now % 40 + 1);
     uint32_t permission = (uint32_t)any(), standing = (uint32_t)(any() % 2), refusal, cut;
     BoughladderReading r, served;
     BoughladderSetting set, set_cut;
@@ -455,13 +558,14 @@ static void garbage(size_t s, size_t c, size_t i) {
     copy(&t, &before);
     CHECK(boughladder_find(LENT(t), animal).refusal <= 10 && same(&t, &before));
 
-    set = boughladder_set(LENT(t), animal, permission, now, standing);
-    CHECK(set.refusal <= 10 && (set.refusal == 0 || same(&t, &before)));
+    set = boughladder_set(LENT(t), animal, permission, issued, now, standing);
+    CHECK(set.refusal <= 11 && (set.refusal == 0 || same(&t, &before)));
+    late += set.refusal == BOUGHLADDER_LATE;
     copy(&whole, &t), copy(&t, &before);
-    set_cut = boughladder_set_cut(LENT(t), animal, permission, now, standing, UINT64_MAX);
+    set_cut = boughladder_set_cut(LENT(t), animal, permission, issued, now, standing, UINT64_MAX);
     CHECK(sets(set_cut, set.refusal, set.visits, set.moves) && same(&t, &whole));
     copy(&t, &before);
-    set_cut = boughladder_set_cut(LENT(t), animal, permission, now, standing, k);
+    set_cut = boughladder_set_cut(LENT(t), animal, permission, issued, now, standing, k);
     CHECK(sets(set_cut, set.refusal, set.visits, set.moves) && (k > 0 || same(&t, &before)));
     copy(&t, &before);
 
@@ -501,23 +605,25 @@ static void twins(void) {
     size_t hand = 0;
     CHECK(boughladder_table_fresh(&t) == 0 && boughladder_fresh(LENT(b)) == 0);
     for (int round = 0; round < 3000; round++) {
-        uint64_t animal = any() % 14, now = any() % 900, k = any() % 9;
+        uint64_t animal = any() % 14, now = any() % 900, issued = any() % 900, k = any() % 9;
         uint32_t permission = (uint32_t)any(), refusal;
         unsigned what = any() % 40;
         BoughladderReading r;
         BoughladderFinding f;
-        BoughladderSetting s, s_cut;
+        BoughladderSetting s, s_table;
         BoughladderEvicting e;
         BoughladderListing l;
         memset(one, 0xee, sizeof one), memset(other, 0xee, sizeof other);
         switch (what < 12 ? what : what % 4 * 2) {
             case 0:
-                s = boughladder_set(LENT(b), animal, permission, now, 0);
-                CHECK(sets(boughladder_table_set(&t, animal, permission, now), s.refusal, s.visits, s.moves));
+                s = boughladder_set(LENT(b), animal, permission, issued, now, 0);
+                s_table = boughladder_table_set(&t, animal, permission, issued, now);
+                CHECK(sets(s_table, s.refusal, s.visits, s.moves));
                 break;
             case 1:
-                s = boughladder_set(LENT(b), animal, permission, now, 1);
-                CHECK(sets(boughladder_table_set_standing(&t, animal, permission), s.refusal, s.visits, s.moves));
+                s = boughladder_set(LENT(b), animal, permission, issued, now, 1);
+                s_table = boughladder_table_set_standing(&t, animal, permission, issued, now);
+                CHECK(sets(s_table, s.refusal, s.visits, s.moves));
                 break;
             case 2:
                 r = boughladder_serve(LENT(b), animal, 720, now);
@@ -545,13 +651,14 @@ static void twins(void) {
                 CHECK(lists(boughladder_table_list(&t, one, sizeof one - 20 * (k % 3)), l.refusal, l.count));
                 break;
             case 8:
-                s = boughladder_set_cut(LENT(b), animal, permission, now, 0, k);
-                CHECK(sets(boughladder_table_set_cut(&t, animal, permission, now, k), s.refusal, s.visits, s.moves));
+                s = boughladder_set_cut(LENT(b), animal, permission, issued, now, 0, k);
+                s_table = boughladder_table_set_cut(&t, animal, permission, issued, now, k);
+                CHECK(sets(s_table, s.refusal, s.visits, s.moves));
                 break;
             case 9:
-                s = boughladder_set_cut(LENT(b), animal, permission, now, 1, k);
-                s_cut = boughladder_table_set_standing_cut(&t, animal, permission, k);
-                CHECK(sets(s_cut, s.refusal, s.visits, s.moves));
+                s = boughladder_set_cut(LENT(b), animal, permission, issued, now, 1, k);
+                s_table = boughladder_table_set_standing_cut(&t, animal, permission, issued, now, k);
+                CHECK(sets(s_table, s.refusal, s.visits, s.moves));
                 break;
             case 10:
                 refusal = boughladder_delete_cut(LENT(b), animal, k);
@@ -572,7 +679,7 @@ static void twins(void) {
 int main(int n, char **words) {
     int rounds = n > 1 ? atoi(words[1]) : 400;
     layout(), hashes(), shapes(), sizes(), nothing_lent(), lanes(), texts(), records();
-    ages(), moves(), clocks(), the_list(), cuts(), twins();
+    ages(), issues(), turns(), moves(), clocks(), the_list(), cuts(), twins();
     /* Each length from 0 on, of one run beside two good ones. */
     for (size_t l = 0; l <= 2100; l++) {
         garbage(l, 1 + any() % 8, 4 * (1 + any() % 8));
@@ -584,6 +691,7 @@ int main(int n, char **words) {
         garbage((size_t)8 << any() % 11, 1 + any() % 1024, 4 * (1 + any() % 1024));
         for (int small = 0; small < 8; small++) garbage((size_t)8 << any() % 4, 1 + any() % 4, 4 * (1 + any() % 24));
     }
+    CHECK(late > 0);
     if (failed != 0) {
         printf("%lu checks failed\n", failed);
         return 1;

@@ -1,4 +1,4 @@
-/* A gate: it makes a table, loads the day's list, serves a few cows, and says why one is held. Run by run. */
+/* A gate: it makes a table, loads lists, a late one too, serves a few cows, and says why one is held. Run by run. */
 #include <inttypes.h>
 #include <stdio.h>
 #include <stdlib.h>
@@ -12,35 +12,49 @@ static uint32_t counters[64];
 static uint64_t items[BOUGHLADDER_ITEMS(PLACES)];
 static BoughladderTable table = BOUGHLADDER_TABLE(slots, counters, items);
 
-/* Permissions: bit 0 milking, else bit 1 grazing, else hold her. */
-static const struct {
-    uint64_t animal;
-    uint32_t permission;
-    int standing;
-} herd[] = {{3101, 1, 0}, {3102, 3, 0}, {3103, 0, 0}, {3104, 2, 1}};
+/* The office writes into a list when it was issued. Permissions: bit 0 milking, else bit 1 grazing, else hold her. */
+typedef struct {
+    uint64_t issued;
+    unsigned cows;
+    struct {
+        uint64_t animal;
+        uint32_t permission;
+        int standing;
+    } cow[4];
+} List;
+static const List yesterday = {100, 4, {{3101, 1, 0}, {3102, 3, 0}, {3103, 0, 0}, {3104, 2, 1}}};
+static const List today = {890, 2, {{3101, 0, 0}, {3102, 3, 0}}}; /* 3101 was treated */
 
-static void load(uint64_t now) {
+/* What was not as expected is counted. */
+static int wrong;
+
+static void begin(void) {
     uint32_t refusal = boughladder_table_fresh(&table);
-    unsigned i, loaded = 0;
     if (refusal != 0) {
         printf("no table: %s\n", boughladder_refusal_text(refusal));
         exit(1);
     }
-    for (i = 0; i < sizeof herd / sizeof herd[0]; i++) {
+}
+
+static void load(const List *list, uint64_t now, unsigned expected) {
+    unsigned i, loaded = 0;
+    for (i = 0; i < list->cows; i++) {
+        uint64_t animal = list->cow[i].animal;
+        uint32_t permission = list->cow[i].permission;
         BoughladderSetting stored =
-            herd[i].standing ? boughladder_table_set_standing(&table, herd[i].animal, herd[i].permission)
-                             : boughladder_table_set(&table, herd[i].animal, herd[i].permission, now);
+            list->cow[i].standing ? boughladder_table_set_standing(&table, animal, permission, list->issued, now)
+                                  : boughladder_table_set(&table, animal, permission, list->issued, now);
         if (stored.refusal != 0)
-            printf("cow %" PRIu64 " not stored: %s\n", herd[i].animal, boughladder_refusal_text(stored.refusal));
+            printf("cow %" PRIu64 " not stored: refusal %" PRIu32 ", %s\n", animal, stored.refusal,
+                   boughladder_refusal_text(stored.refusal));
         else
             loaded++;
     }
-    printf("minute %" PRIu64 ": %u permissions loaded\n", now, loaded);
+    wrong += loaded != expected;
+    printf("minute %" PRIu64 ": %u permissions loaded, issued in minute %" PRIu64 "\n", now, loaded, list->issued);
 }
 
-/* The lane decides; the rest of the answer only says why. A lane that is not the expected one is counted. */
-static int wrong;
-
+/* The lane decides; the rest of the answer only says why. */
 static void serve(uint64_t animal, uint64_t limit, uint64_t now, enum BoughladderLane expected) {
     static const char *const lanes[] = {"is held", "goes milking", "goes grazing"};
     BoughladderReading r = boughladder_table_serve(&table, animal, limit, now);
@@ -66,7 +80,8 @@ int main(void) {
     BoughladderEvicting gone;
     BoughladderListing list;
 
-    load(100);
+    begin();
+    load(&yesterday, 110, 4);
     serve(3101, LIMIT, 820, BOUGHLADDER_MILKING);
     serve(3102, LIMIT, 821, BOUGHLADDER_HOLDING);   /* a minute too late */
     serve(3103, LIMIT, 820, BOUGHLADDER_HOLDING);   /* fresh, and no bit is set */
@@ -76,18 +91,30 @@ int main(void) {
     serve(0, LIMIT, 200, BOUGHLADDER_HOLDING);
     serve(3101, 20000, 200, BOUGHLADDER_HOLDING);
 
+    /* The network was down. Today's list comes first, and then the relay delivers yesterday's once more. Who is on
+       today's keeps it; for the others nothing later is held, and their permissions are as old as they are. */
+    load(&today, 900, 2);
+    load(&yesterday, 905, 2);
+    serve(3101, LIMIT, 906, BOUGHLADDER_HOLDING);
+    serve(3102, LIMIT, 906, BOUGHLADDER_MILKING);
+    serve(3103, LIMIT, 906, BOUGHLADDER_HOLDING);
+    load(&today, 889, 0); /* the clock was set back: issued later than now */
+
     /* The power goes in the middle of a set: two stores of five were made, and her counter is odd. */
-    if (boughladder_table_set_cut(&table, 3101, 7, 300, 2).refusal != 0) return 1;
-    serve(3101, LIMIT, 301, BOUGHLADDER_HOLDING);
-    load(302); /* only fresh helps a busy counter */
-    serve(3101, LIMIT, 303, BOUGHLADDER_MILKING);
+    if (boughladder_table_set_cut(&table, 3102, 7, 910, 910, 2).refusal != 0) return 1;
+    serve(3102, LIMIT, 911, BOUGHLADDER_HOLDING);
+    begin(); /* only fresh helps a busy counter */
+    load(&today, 912, 2);
+    serve(3102, LIMIT, 913, BOUGHLADDER_MILKING);
 
     /* Somebody wrote over a slot of cow 3102. */
     at = boughladder_table_find(&table, 3102);
     for (i = 0; i < table.slots_length; i++)
         if (slots[i] != 0 && slots[i] % 65536 == at.place) slots[i] = 0xdeadbeef;
-    serve(3102, LIMIT, 304, BOUGHLADDER_HOLDING);
-    load(305);
+    serve(3102, LIMIT, 914, BOUGHLADDER_HOLDING);
+    begin();
+    load(&today, 915, 2);
+    load(&yesterday, 916, 2);
 
     /* Room is made: the hand takes the first cow that was not here lately, after it has passed all once. */
     gone = boughladder_table_evict(&table, hand);

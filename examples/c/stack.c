@@ -25,8 +25,8 @@ static void fresh(void) { told = boughladder_table_fresh(&table); }
 static void read_one(void) { told = boughladder_table_read(&table, animal, 720, 100).age; }
 static void serve(void) { told = boughladder_table_serve(&table, animal, 720, 100).age; }
 static void find(void) { told = boughladder_table_find(&table, animal).place; }
-static void set(void) { told = boughladder_table_set(&table, animal, 1, 100).visits; }
-static void set_cut(void) { told = boughladder_table_set_cut(&table, animal, 1, 100, k).visits; }
+static void set(void) { told = boughladder_table_set(&table, animal, 1, 100, 100).visits; }
+static void set_cut(void) { told = boughladder_table_set_cut(&table, animal, 1, 100, 100, k).visits; }
 static void delete_one(void) { told = boughladder_table_delete(&table, animal); }
 static void delete_cut(void) { told = boughladder_table_delete_cut(&table, animal, k); }
 static void evict(void) { told = boughladder_table_evict(&table, hand).hand; }
@@ -72,7 +72,7 @@ int main(void) {
         table.counters_length = 1 + (size_t)rand() % 8;
         if (boughladder_table_fresh(&table) != 0) return 1;
         for (; cows > 0; cows--)
-            if (boughladder_table_set(&table, 1 + (uint64_t)rand(), 1, 100).refusal != 0) break;
+            if (boughladder_table_set(&table, 1 + (uint64_t)rand(), 1, 100, 100).refusal != 0) break;
         for (n = 1; n < CALLS; n++) {
             size_t took;
             animal = rand() % 3 == 0 ? (uint64_t)rand() : items[4 * ((size_t)rand() % 100)];

@@ -12,6 +12,9 @@ uint16_t wrong(uint32_t *pointer, const BoughladderTable *read_only) {
     BoughladderTable other = BOUGHLADDER_TABLE(slots, counters, items);
     BOUGHLADDER_CHECK_SHAPE(64, 16, 200);
     answer = boughladder_table_read(&other, 1, 2, 3).kind;
+    answer = (uint16_t)(answer + boughladder_table_set(&table, 1, 2, 3, 4).refusal);
+    answer = (uint16_t)(answer + boughladder_table_set_standing(&table, 1, 2, 3, 4).refusal);
+    answer = (uint16_t)(answer + boughladder_set(slots, 256, counters, 16, items, 800, 1, 2, 3, 4, 0).refusal);
 #elif WRONG == 1 /* slots and counters swapped */
     BoughladderTable other = BOUGHLADDER_TABLE(counters, slots, items);
 #elif WRONG == 2 /* a pointer, whose length nobody knows */
@@ -25,11 +28,17 @@ uint16_t wrong(uint32_t *pointer, const BoughladderTable *read_only) {
 #elif WRONG == 6 /* three buckets */
     BOUGHLADDER_CHECK_SHAPE(3, 1, 200);
 #elif WRONG == 7 /* a refusal that nobody looks at */
-    boughladder_table_set(&table, 1, 2, 3);
+    boughladder_table_set(&table, 1, 2, 3, 4);
 #elif WRONG == 8 /* the same with a plain call */
     boughladder_delete(slots, 256, counters, 16, items, 800, 1);
 #elif WRONG == 9 /* a task that may only read serves */
     answer = boughladder_table_serve(read_only, 1, 2, 3).kind;
+#elif WRONG == 10 /* a caller of 1.0.0, without the issue minute */
+    answer = (uint16_t)boughladder_table_set(&table, 1, 2, 4).refusal;
+#elif WRONG == 11 /* the same with a standing permission */
+    answer = (uint16_t)boughladder_table_set_standing(&table, 1, 2).refusal;
+#elif WRONG == 12 /* the same with a plain call */
+    answer = (uint16_t)boughladder_set(slots, 256, counters, 16, items, 800, 1, 2, 4, 0).refusal;
 #endif
 #if WRONG >= 1 && WRONG <= 5
     answer = (uint16_t)other.slots_length;

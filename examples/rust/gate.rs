@@ -9,11 +9,12 @@ fn main() -> Result<(), Refusal> {
     table.fresh()?;
 
     // Permissions: bit 0 milking, else bit 1 grazing, else hold her.
+    // The office issued this list in minute 100, and it is minute 110.
     for (animal, permission) in [(3101, 1), (3102, 0)] {
-        let stored = table.set(animal, permission, 100)?;
+        let stored = table.set(animal, permission, 100, 110)?;
         println!("cow {animal} stored: {} buckets visited, {} entries moved", stored.visits, stored.moves);
     }
-    table.set_standing(3104, 2)?;
+    table.set_standing(3104, 2, 100, 110)?;
 
     // The lane decides; the rest of the answer only says why. 3102 is fresh at first, and held all the same.
     for (animal, now) in [(3101, 820), (3102, 820), (3102, 821), (3104, 90000), (3101, 99), (4711, 200), (0, 200)] {
@@ -26,12 +27,17 @@ fn main() -> Result<(), Refusal> {
         }
     }
 
+    // Today's list holds 3101; then the relay brings yesterday's, and she keeps today's.
+    table.set(3101, 0, 825, 828)?;
+    assert_eq!(table.set(3101, 1, 100, 829), Err(Refusal::Late));
+    println!("cow 3101 not stored: {}", Refusal::Late);
+
     // A fourth cow has no place: the hand takes one that was not here lately, after it has passed all once.
-    assert_eq!(table.set(3105, 1, 830), Err(Refusal::NoPlace));
+    assert_eq!(table.set(3105, 1, 830, 831), Err(Refusal::NoPlace));
     let gone = table.evict(hand)?;
     hand = gone.hand;
     println!("cow {} evicted, {} places looked at, the hand is at {hand}", gone.victim, gone.looked);
-    table.set(3105, 1, 830)?;
+    table.set(3105, 1, 830, 831)?;
     assert_eq!(table.read(3105, 720, 840), Ok(Reading::Fresh { permission: 1, age: 10 }));
     assert_eq!(table.delete(gone.victim), Err(Refusal::Nobody));
     let mut buffer = [0; boughladder::list_bytes(3)];

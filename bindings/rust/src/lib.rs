@@ -6,7 +6,7 @@
 //! let (mut s, mut c, mut i) = ([0; slots(64)], [0; 16], [0; items(200)]);
 //! let mut table = Table { slots: &mut s, counters: &mut c, items: &mut i };
 //! table.fresh()?;
-//! table.set(4711, 1, 100)?;
+//! table.set(4711, 1, 100, 110)?; // issued in minute 100, and it is minute 110 now
 //! if lane(table.serve(4711, 720, 130)) == Lane::Milking { /* open the milking gate */ }
 //! # Ok::<(), boughladder::Refusal>(())
 //! ```
@@ -14,6 +14,12 @@
 //! Every call is safe on slices of any length and contents: it ends, touches nothing outside of them, and says what it
 //! found. Calls that write take `&mut self`, serve too, so no other call runs beside them. Two threads share a table in
 //! a `Mutex`, or in a `RwLock`: reads, finds and lists may run beside each other.
+//!
+//! A set takes two minutes, issued before now. `issued` is when the office gave the permission, as the list says; it
+//! becomes the stamp. `now` is the gate's clock. Swapped, they are [`Refusal::BadTime`] where issued is earlier than
+//! now; where it is later, now becomes the stamp, which is wrong. A list that was issued before what is held is
+//! [`Refusal::Late`], and nothing else stops a late list: after a delete or an eviction it is stored. What came with
+//! minutes that ran ahead makes every true list late until the animal is deleted.
 
 mod ffi;
 
@@ -52,7 +58,7 @@ pub enum Refusal {
     BadShape,
     /// The animal number is 0.
     NoAnimal,
-    /// The limit is above 10,080 minutes, or now is 2^64 - 1.
+    /// The limit is above 10,080 minutes, now is 2^64 - 1, or issued is later than now.
     BadTime,
     /// A damaged word was read, or evict's victim has no slot. Make it fresh and load the list again.
     Damaged,
@@ -68,11 +74,13 @@ pub enum Refusal {
     ShortBuffer,
     /// The hand found no victim: proved never to come.
     NoVictim,
+    /// Set of a held animal: its stamp is later than issued, and neither is standing. It keeps what it has.
+    Late,
     /// A number that this crate does not know: the archive is of another version.
     Unknown(u32),
 }
 
-const REFUSALS: [Refusal; 10] = [
+const REFUSALS: [Refusal; 11] = [
     Refusal::BadShape,
     Refusal::NoAnimal,
     Refusal::BadTime,
@@ -83,6 +91,7 @@ const REFUSALS: [Refusal; 10] = [
     Refusal::Busy,
     Refusal::ShortBuffer,
     Refusal::NoVictim,
+    Refusal::Late,
 ];
 
 impl Refusal {
@@ -104,6 +113,7 @@ impl Refusal {
             Refusal::Busy => 8,
             Refusal::ShortBuffer => 9,
             Refusal::NoVictim => 10,
+            Refusal::Late => 11,
             Refusal::Unknown(number) => number,
         }
     }
@@ -114,7 +124,7 @@ impl fmt::Display for Refusal {
         f.write_str(match self {
             Refusal::BadShape => "a length of the lent memory is wrong, or the hand is too large",
             Refusal::NoAnimal => "the animal number is 0",
-            Refusal::BadTime => "the limit is above 10080 minutes, or the clock gave no minute",
+            Refusal::BadTime => "the limit is too large, now is no minute, or issued is later than now",
             Refusal::Damaged => "a damaged word was read",
             Refusal::NoPlace => "no vacant place for a new animal",
             Refusal::NoRoom => "no room within four moves for a new animal",
@@ -122,6 +132,7 @@ impl fmt::Display for Refusal {
             Refusal::Busy => "busy: a write was cut off",
             Refusal::ShortBuffer => "the buffer is too short for the list",
             Refusal::NoVictim => "the hand found no victim",
+            Refusal::Late => "late: a permission that was issued later is held",
             Refusal::Unknown(_) => "no refusal number",
         })
     }
@@ -306,24 +317,31 @@ impl Table<'_> {
         done(r.refusal, if r.kind == 0 { None } else { Some(r.place) })
     }
 
-    /// Stores a permission with the stamp now, over the one that is held.
-    pub fn set(&mut self, animal: u64, permission: u32, now: u64) -> Result<Stored, Refusal> {
-        stored(writes!(self, boughladder_set, animal, permission, now, 0))
+    /// Stores a permission with the stamp issued, over the one that is held unless that has a later stamp.
+    pub fn set(&mut self, animal: u64, permission: u32, issued: u64, now: u64) -> Result<Stored, Refusal> {
+        stored(writes!(self, boughladder_set, animal, permission, issued, now, 0))
     }
 
-    /// Stores a standing permission: it is always fresh, with age 0.
-    pub fn set_standing(&mut self, animal: u64, permission: u32) -> Result<Stored, Refusal> {
-        stored(writes!(self, boughladder_set, animal, permission, 0, 1))
+    /// Stores a standing permission, over any: it is always fresh, with age 0. Its minutes are tested and then dropped.
+    pub fn set_standing(&mut self, animal: u64, permission: u32, issued: u64, now: u64) -> Result<Stored, Refusal> {
+        stored(writes!(self, boughladder_set, animal, permission, issued, now, 1))
     }
 
     /// Set, of which only the first k stores are made, as a loss of power leaves it.
-    pub fn set_cut(&mut self, animal: u64, permission: u32, now: u64, k: u64) -> Result<Stored, Refusal> {
-        stored(writes!(self, boughladder_set_cut, animal, permission, now, 0, k))
+    pub fn set_cut(&mut self, animal: u64, permission: u32, issued: u64, now: u64, k: u64) -> Result<Stored, Refusal> {
+        stored(writes!(self, boughladder_set_cut, animal, permission, issued, now, 0, k))
     }
 
     /// Set of a standing permission, of which only the first k stores are made.
-    pub fn set_standing_cut(&mut self, animal: u64, permission: u32, k: u64) -> Result<Stored, Refusal> {
-        stored(writes!(self, boughladder_set_cut, animal, permission, 0, 1, k))
+    pub fn set_standing_cut(
+        &mut self,
+        animal: u64,
+        permission: u32,
+        issued: u64,
+        now: u64,
+        k: u64,
+    ) -> Result<Stored, Refusal> {
+        stored(writes!(self, boughladder_set_cut, animal, permission, issued, now, 1, k))
     }
 
     /// Takes the animal's entry away.

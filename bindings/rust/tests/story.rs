@@ -54,7 +54,7 @@ fn ages() {
     let mut memory = lent(slots(8), 4, items(8));
     let mut table = memory.table();
     table.fresh().unwrap();
-    assert_eq!(table.set(7, 5, 100), stored(1, 0));
+    assert_eq!(table.set(7, 5, 100, 100), stored(1, 0));
     assert_eq!(table.read(7, 720, 820), fresh(5, 720));
     assert_eq!(table.read(7, 720, 821), Ok(Reading::Old { age: 721 }));
     assert_eq!(table.read(7, 720, 99), Ok(Reading::Ahead));
@@ -62,9 +62,9 @@ fn ages() {
     assert_eq!(table.read(7, LARGEST_LIMIT, 10180), fresh(5, 10080));
     assert_eq!(table.read(7, LARGEST_LIMIT + 1, 100), Err(Refusal::BadTime));
     assert_eq!(table.read(7, 720, u64::MAX), Err(Refusal::BadTime));
-    assert_eq!(table.set(7, 5, u64::MAX), Err(Refusal::BadTime));
+    assert_eq!(table.set(7, 5, u64::MAX, u64::MAX), Err(Refusal::BadTime));
     assert_eq!(table.read(0, 720, 100), Err(Refusal::NoAnimal));
-    assert_eq!(table.set_standing(7, 6), stored(0, 0));
+    assert_eq!(table.set_standing(7, 6, 100, 100), stored(0, 0));
     assert_eq!(table.read(7, 0, u64::MAX - 1), fresh(6, 0));
     assert_eq!(table.items[..4], [7, 6, STANDING, 1]);
 }
@@ -74,34 +74,46 @@ fn the_network_drops() {
     let mut memory = lent(32, 4, 32);
     let mut table = memory.table();
     table.fresh().unwrap();
-    assert_eq!(table.set(4711, 1, 100), stored(1, 0));
-    assert_eq!(table.set(4712, 1, 100), stored(1, 0));
-    assert_eq!(table.set(4713, 2, 100), stored(1, 0));
-    assert_eq!(table.set_standing(900, 2), stored(1, 0));
+    assert_eq!(table.set(4711, 1, 100, 100), stored(1, 0));
+    assert_eq!(table.set(4712, 1, 100, 100), stored(1, 0));
+    assert_eq!(table.set(4713, 2, 100, 100), stored(1, 0));
     assert_eq!(table.serve(4711, 720, 130), fresh(1, 30));
+    assert_eq!(table.serve(4712, 720, 130), fresh(1, 30));
     assert_eq!(table.serve(4713, 720, 130), fresh(2, 30));
-    assert_eq!(table.serve(900, 720, 130), fresh(2, 0));
     assert_eq!(table.read(4712, 720, 200), fresh(1, 100));
     assert_eq!(table.serve(4711, 720, 820), fresh(1, 720));
     assert_eq!(table.serve(4711, 720, 821), Ok(Reading::Old { age: 721 }));
     assert_eq!(lane(table.serve(4711, 720, 821)), Lane::Holding);
     assert_eq!(table.serve(4712, 720, 840), Ok(Reading::Old { age: 740 }));
+    assert_eq!(table.serve(4713, 720, 840), Ok(Reading::Old { age: 740 }));
+    assert_eq!(table.set_standing(900, 2, 840, 840), stored(1, 0));
     assert_eq!(table.serve(900, 720, 840), fresh(2, 0));
     assert_eq!(table.serve(4799, 720, 840), Ok(Reading::Absent));
     assert_eq!(table.read(4711, 10080, 840), fresh(1, 740));
     assert_eq!(table.read(4711, 10081, 840), Err(Refusal::BadTime));
 
     // The network is back: 4712 was treated, and her fresh permission is to hold her.
-    assert_eq!(table.set(4711, 1, 900), stored(0, 0));
-    assert_eq!(table.set(4712, 0, 900), stored(0, 0));
-    assert_eq!(table.set(4713, 2, 900), stored(0, 0));
-    assert_eq!(table.serve(4712, 720, 905), fresh(0, 5));
-    assert_eq!(lane(table.serve(4711, 720, 905)), Lane::Milking);
-    assert_eq!(lane(table.serve(4712, 720, 905)), Lane::Holding);
-    assert_eq!(lane(table.serve(4713, 720, 905)), Lane::Grazing);
-    assert_eq!(table.set(4714, 1, 900), stored(1, 0));
+    assert_eq!(table.set(4711, 1, 890, 900), stored(0, 0));
+    assert_eq!(table.set(4712, 0, 890, 900), stored(0, 0));
+    // Yesterday's list comes behind it. Where today's is held it is late; else it is stored, and old at once.
+    assert_eq!(table.set(4711, 1, 100, 902), Err(Refusal::Late));
+    assert_eq!(table.set(4712, 1, 100, 902), Err(Refusal::Late));
+    assert_eq!(table.set(4713, 2, 100, 902), stored(0, 0));
+    assert_eq!(table.set(4714, 1, 100, 902), stored(1, 0));
+    assert_eq!(table.serve(4711, 720, 905), fresh(1, 15));
+    assert_eq!(table.serve(4712, 720, 905), fresh(0, 15));
+    assert_eq!(table.serve(4713, 720, 905), Ok(Reading::Old { age: 805 }));
+    assert_eq!(table.serve(4714, 720, 905), Ok(Reading::Old { age: 805 }));
+    assert_eq!(table.set(4713, 2, 890, 906), stored(0, 0));
+    assert_eq!(table.set(4714, 1, 890, 906), stored(0, 0));
+    assert_eq!(table.serve(4713, 720, 910), fresh(2, 20));
+    assert_eq!(lane(table.serve(4711, 720, 910)), Lane::Milking);
+    assert_eq!(lane(table.serve(4712, 720, 910)), Lane::Holding);
+    assert_eq!(lane(table.serve(4713, 720, 910)), Lane::Grazing);
+    assert_eq!(table.serve(4714, 720, 910), fresh(1, 20));
     assert_eq!(table.read(4711, 720, 99), Ok(Reading::Ahead));
-    assert_eq!(table.set(4715, 1, 100), stored(1, 0));
+    assert_eq!(table.set(4715, 1, 100, 100), stored(1, 0));
+    assert_eq!(table.read(4715, 720, 99), Ok(Reading::Ahead));
     assert_eq!(table.delete(4713), Ok(()));
     assert_eq!(table.delete(4713), Err(Refusal::Nobody));
     assert_eq!(table.find(4713), Ok(None));
@@ -114,15 +126,106 @@ fn the_network_drops() {
     let text: String = records.bytes().iter().map(|byte| format!("{byte:02x}")).collect();
     assert_eq!(
         text,
-        "6712000000000000010000008403000000000000\
-         6812000000000000000000008403000000000000\
+        "6712000000000000010000007a03000000000000\
+         6812000000000000000000007a03000000000000\
          840300000000000002000000ffffffffffffffff\
-         6a12000000000000010000008403000000000000\
+         6a12000000000000010000007a03000000000000\
          6b12000000000000010000006400000000000000"
     );
     let told: Vec<_> = records.map(|record| (record.animal, record.permission, record.stamp)).collect();
-    assert_eq!(told, [(4711, 1, 900), (4712, 0, 900), (900, 2, STANDING), (4714, 1, 900), (4715, 1, 100)]);
+    assert_eq!(told, [(4711, 1, 890), (4712, 0, 890), (900, 2, STANDING), (4714, 1, 890), (4715, 1, 100)]);
     assert_eq!(buffer[100..], [0xee; 4]);
+}
+
+// A table in which animal 7 has permission 5, issued in minute 100 and stored in minute 300; she was not here since.
+fn holding(memory: &mut Memory) -> Table<'_> {
+    let mut table = memory.table();
+    table.fresh().unwrap();
+    assert_eq!(table.set(7, 5, 100, 300), stored(1, 0));
+    table.items[3] = 0;
+    table
+}
+
+// What a set and its cut form say, both of which must refuse and leave every word as it was.
+fn refused(table: &mut Table, animal: u64, issued: u64, now: u64, standing: bool) -> Refusal {
+    let words = |table: &Table| (table.slots.to_vec(), table.counters.to_vec(), table.items.to_vec());
+    let before = words(table);
+    let (whole, cut) = if standing {
+        (table.set_standing(animal, 9, issued, now), table.set_standing_cut(animal, 9, issued, now, 5))
+    } else {
+        (table.set(animal, 9, issued, now), table.set_cut(animal, 9, issued, now, 5))
+    };
+    assert_eq!(whole, cut);
+    assert_eq!(words(table), before);
+    whole.unwrap_err()
+}
+
+#[test]
+fn a_late_list() {
+    let mut memory = lent(slots(8), 4, items(1));
+    let mut table = holding(&mut memory);
+    assert_eq!(refused(&mut table, 7, 99, 300, false), Refusal::Late);
+    assert_eq!(table.read(7, 720, 300), fresh(5, 200));
+    // Not held, and no place: that is another refusal.
+    assert_eq!(refused(&mut table, 8, 99, 300, false), Refusal::NoPlace);
+    // The same minute is stored, and so is a later one, by the cut form too.
+    assert_eq!(table.set(7, 6, 100, 300), stored(0, 0));
+    assert_eq!(table.items[..4], [7, 6, 100, 1]);
+    assert_eq!(table.set_cut(7, 4, 101, 300, 5), stored(0, 0));
+    assert_eq!(table.items[..4], [7, 4, 101, 1]);
+}
+
+#[test]
+fn issued_after_now() {
+    let mut memory = lent(slots(8), 4, items(1));
+    let mut table = holding(&mut memory);
+    for standing in [false, true] {
+        for animal in [7, 8] {
+            assert_eq!(refused(&mut table, animal, 301, 300, standing), Refusal::BadTime);
+            assert_eq!(refused(&mut table, animal, 300, u64::MAX, standing), Refusal::BadTime);
+        }
+    }
+    assert_eq!(table.set(7, 6, 300, 300), stored(0, 0));
+    // The minutes swapped.
+    assert_eq!(refused(&mut table, 7, 400, 310, false), Refusal::BadTime);
+}
+
+#[test]
+fn standing_is_never_late() {
+    let mut memory = lent(slots(8), 4, items(1));
+    let mut table = holding(&mut memory);
+    assert_eq!(table.set_standing(7, 6, 50, 300), stored(0, 0));
+    assert_eq!(table.items[..4], [7, 6, STANDING, 1]);
+    // Nor is a late list over a standing permission.
+    assert_eq!(table.set(7, 5, 50, 300), stored(0, 0));
+    assert_eq!(table.items[..4], [7, 5, 50, 1]);
+}
+
+#[test]
+fn late_and_nothing_held() {
+    let mut memory = lent(slots(8), 4, items(1));
+    let mut table = holding(&mut memory);
+    assert_eq!(refused(&mut table, 7, 90, 300, false), Refusal::Late);
+    table.delete(7).unwrap();
+    assert_eq!(table.set(7, 1, 90, 300), stored(1, 0));
+    assert_eq!(table.read(7, 720, 300), fresh(1, 210));
+    table.evict(0).unwrap();
+    assert_eq!(table.set(7, 1, 80, 300), stored(1, 0));
+    assert_eq!(table.read(7, 720, 300), fresh(1, 220));
+}
+
+#[test]
+fn a_clock_that_ran_ahead() {
+    let mut memory = lent(slots(8), 4, items(1));
+    let mut table = holding(&mut memory);
+    assert_eq!(table.set(7, 1, 5000, 5000), stored(0, 0));
+    // Put right, it makes every true list late, until she is deleted.
+    assert_eq!(table.read(7, 720, 900), Ok(Reading::Ahead));
+    assert_eq!(refused(&mut table, 7, 900, 900, false), Refusal::Late);
+    assert_eq!(table.read(7, 720, 5000), fresh(1, 0));
+    table.delete(7).unwrap();
+    assert_eq!(table.set(7, 1, 900, 900), stored(1, 0));
+    assert_eq!(table.read(7, 720, 900), fresh(1, 0));
 }
 
 #[test]
@@ -130,7 +233,7 @@ fn records() {
     let mut memory = lent(slots(2), 1, items(1));
     let mut table = memory.table();
     table.fresh().unwrap();
-    table.set(1, 5, 2).unwrap();
+    table.set(1, 5, 2, 2).unwrap();
     let mut buffer = [0; 20];
     let list = table.list(&mut buffer).unwrap();
     assert_eq!(list.bytes(), [1, 0, 0, 0, 0, 0, 0, 0, 5, 0, 0, 0, 2, 0, 0, 0, 0, 0, 0, 0]);
@@ -145,22 +248,22 @@ fn room_is_made() {
     let mut table = memory.table();
     table.fresh().unwrap();
     for animal in [358, 687, 1012, 1334, 248, 734, 913, 1710] {
-        assert_eq!(table.set(animal, 1, 100), stored(1, 0));
+        assert_eq!(table.set(animal, 1, 100, 100), stored(1, 0));
     }
-    assert_eq!(table.set(5, 1, 100), stored(5, 1));
+    assert_eq!(table.set(5, 1, 100, 100), stored(5, 1));
     assert_eq!((table.slots[12], table.counters[0]), (131074, 20));
     assert_eq!(table.read(1012, 720, 100), fresh(1, 0));
-    assert_eq!(table.set(6, 1, 100), Err(Refusal::NoPlace));
+    assert_eq!(table.set(6, 1, 100, 100), Err(Refusal::NoPlace));
 
     let mut memory = lent(slots(2), 1, items(9));
     let mut table = memory.table();
     table.fresh().unwrap();
     for animal in 1..=8 {
-        assert_eq!(table.set(animal, 1, 100), stored(1, 0));
+        assert_eq!(table.set(animal, 1, 100, 100), stored(1, 0));
     }
-    assert_eq!(table.set(9, 1, 100), Err(Refusal::NoRoom));
+    assert_eq!(table.set(9, 1, 100, 100), Err(Refusal::NoRoom));
     assert_eq!(table.delete(4), Ok(()));
-    assert_eq!(table.set(9, 1, 100), stored(2, 0));
+    assert_eq!(table.set(9, 1, 100, 100), stored(2, 0));
 }
 
 #[test]
@@ -170,14 +273,14 @@ fn the_hand() {
     table.fresh().unwrap();
     assert_eq!(table.evict(0), Err(Refusal::Nobody));
     for animal in 1..=3 {
-        table.set(animal, 1, 100).unwrap();
+        table.set(animal, 1, 100, 100).unwrap();
     }
     assert_eq!(table.evict(3), Err(Refusal::BadShape));
     assert_eq!(table.evict(1), Ok(Evicted { victim: 2, looked: 4, hand: 2 }));
 
     // Alone, and here lately: two turns. First with no more than the mark taken from her.
     table.fresh().unwrap();
-    table.set(1, 1, 100).unwrap();
+    table.set(1, 1, 100, 100).unwrap();
     assert_eq!(table.evict_cut(1, 1), Ok(Evicted { victim: 1, looked: 6, hand: 1 }));
     assert_eq!(table.items[..4], [1, 1, 100, 0]);
     assert_eq!(table.serve(1, 720, 100), fresh(1, 0));
@@ -193,22 +296,22 @@ fn the_power_goes() {
         let mut table = memory.table();
         table.fresh().unwrap();
         // Seven stores of a new entry: busy between the first and the last.
-        assert_eq!(table.set_cut(7, 5, 100, k), stored(1, 0));
+        assert_eq!(table.set_cut(7, 5, 90, 100, k), stored(1, 0));
         let said = table.read(7, 720, 100);
         match k {
             0 => assert_eq!(said, Ok(Reading::Absent)),
             1..=6 => {
                 assert_eq!(said, Err(Refusal::Busy));
                 assert_eq!(lane(said), Lane::Holding);
-                assert_eq!(table.set(7, 5, 100), Err(Refusal::Busy));
+                assert_eq!(table.set(7, 5, 100, 100), Err(Refusal::Busy));
                 assert_eq!(table.delete(7), Err(Refusal::Busy));
                 assert_eq!(table.find(7), Err(Refusal::Busy));
             }
-            _ => assert_eq!(said, fresh(5, 0)),
+            _ => assert_eq!(said, fresh(5, 10)),
         }
         // Only fresh helps.
         table.fresh().unwrap();
-        assert_eq!(table.set_standing_cut(7, 5, 7), stored(1, 0));
+        assert_eq!(table.set_standing_cut(7, 5, 90, 100, 7), stored(1, 0));
         // Seven stores of a delete.
         assert_eq!(table.delete_cut(7, k), Ok(()));
         match (k, table.read(7, 720, 100)) {
@@ -224,7 +327,7 @@ fn a_damaged_word() {
     let mut memory = lent(slots(4), 4, items(5));
     let mut table = memory.table();
     table.fresh().unwrap();
-    table.set(1, 1, 100).unwrap();
+    table.set(1, 1, 100, 100).unwrap();
     for word in [4, 16777216, 65541] {
         table.slots[1] = word;
         assert_eq!(table.read(1, 720, 110), Err(Refusal::Damaged));
@@ -247,10 +350,12 @@ fn lanes() {
 
 #[test]
 fn refusals() {
-    for number in 1..=10 {
+    for number in 1..=11 {
         assert_eq!(Refusal::from_number(number).number(), number);
         assert_ne!(Refusal::from_number(number), Refusal::Unknown(number));
     }
-    assert_eq!(Refusal::from_number(11), Refusal::Unknown(11));
+    assert_eq!(Refusal::from_number(11), Refusal::Late);
+    assert_eq!(Refusal::from_number(12), Refusal::Unknown(12));
     assert_eq!(Refusal::Busy.to_string(), "busy: a write was cut off");
+    assert_eq!(Refusal::Late.to_string(), "late: a permission that was issued later is held");
 }

@@ -36,9 +36,9 @@ static void make(const char *op, const uint64_t *n) {
     else if (!strcmp(op, "read")) MARKED(r = boughladder_read(LENT, n[0], n[1], n[2]));
     else if (!strcmp(op, "serve")) MARKED(r = boughladder_serve(LENT, n[0], n[1], n[2]));
     else if (!strcmp(op, "find")) MARKED(f = boughladder_find(LENT, n[0]));
-    else if (!strcmp(op, "set")) MARKED(t = boughladder_set(LENT, n[0], (uint32_t)n[1], n[2], (uint32_t)n[3]));
+    else if (!strcmp(op, "set")) MARKED(t = boughladder_set(LENT, n[0], (uint32_t)n[1], n[2], n[3], (uint32_t)n[4]));
     else if (!strcmp(op, "set_cut"))
-        MARKED(t = boughladder_set_cut(LENT, n[0], (uint32_t)n[1], n[2], (uint32_t)n[3], n[4]));
+        MARKED(t = boughladder_set_cut(LENT, n[0], (uint32_t)n[1], n[2], n[3], (uint32_t)n[4], n[5]));
     else if (!strcmp(op, "delete")) MARKED(d = boughladder_delete(LENT, n[0]));
     else if (!strcmp(op, "delete_cut")) MARKED(d = boughladder_delete_cut(LENT, n[0], n[1]));
     else if (!strcmp(op, "evict")) MARKED(e = boughladder_evict(LENT, n[0]));

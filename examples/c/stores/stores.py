@@ -152,17 +152,19 @@ def move(t, source, destination):
     t.count(counter)
 
 
-def set_(t, animal, permission, now, standing):
+def set_(t, animal, permission, issued, now, standing):
     if animal == 0:
         raise Refusal(2)
-    if now == TOP:
+    if now == TOP or issued > now:
         raise Refusal(3)
     slot = hit(t, animal)
     tag, first, _ = homes(t, animal)
     counter = counter_of(t, first, tag)
-    parts = [animal, permission, TOP if standing else now, 1]
+    parts = [animal, permission, TOP if standing else issued, 1]
     if slot is not None:
         place = t.word['slots'][slot] % 65536
+        if not standing and issued < t.item(place, 2) != TOP:
+            raise Refusal(11)
         t.count(counter)
         for n in (1, 2, 3):
             t.put('items', 4 * place + n, parts[n])
@@ -385,7 +387,7 @@ def compare(scenarios, memory, trace):
     # The scenarios reach every number of moves and every refusal but 10; every writing call is made and refused.
     writing = ['fresh', 'serve', 'set', 'set_cut', 'delete', 'delete_cut', 'evict', 'evict_cut']
     missed = {(op, success) for op in writing for success in (True, False)} - made
-    if len(moves) != 2 * 5 or refusals != set(range(10)) or missed:
+    if len(moves) != 2 * 5 or refusals != {*range(10), 11} or missed:
         wrong += 1
         print('the scenarios reach only moves %s, refusals %s, and not %s' % (sorted(moves), refusals, missed))
     calls, stores, joined = (sum(line[n] for line in report.values()) for n in range(3))
@@ -403,7 +405,7 @@ def herd_needs(shape, herd):
     table = Table(shape)
     call(table, 'fresh', [])
     for animal in herd:
-        answer, _ = call(table, 'set', [animal, 1, 100, 0])
+        answer, _ = call(table, 'set', [animal, 1, 100, 100, 0])
         if answer[0]:
             return None
     return answer[2]
@@ -429,8 +431,8 @@ def look_for_herd(buckets, counters, moves, seed):
     print('scenario set of an absent animal, N = %d, moves: %d' % (buckets, moves))
     print('lend %d %d %d\nfresh' % (shape[0], counters, 4 * (len(herd) + 1)))
     for animal in herd[:-1]:
-        print('set %d 1 100 0' % animal)
-    print('cuts %d set_cut %d 7 200 0\nset %d 7 200 0' % (7 + 4 * moves, herd[-1], herd[-1]))
+        print('set %d 1 100 100 0' % animal)
+    print('cuts %d set_cut %d 7 150 200 0\nset %d 7 150 200 0' % (7 + 4 * moves, herd[-1], herd[-1]))
 
 
 if __name__ == '__main__':
