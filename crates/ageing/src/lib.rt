@@ -53,11 +53,12 @@ pub fn is_fresh(told: Reading) -> bool
     }
 }
 
-// The minutes of a set are out of range: now is no minute, or the minute of issue is later.
+// The minutes of a set are out of range: now is no minute, or the minute of issue is later. One test tells both, for behind the last
+// number comes 0.
 pub fn is_bad_grant(g: Grant) -> bool
     ensures { λ r. ⌜ r ≡ bad-grant g ⌝ }
 {
-    (g.minute == 18446744073709551615) | (g.minute < g.issued)
+    std::num::wrapping_add_u64(g.minute, 1) <= g.issued
 }
 
 // The list is late for an animal that is held with that stamp: the stamp is later, and neither is standing.

@@ -1,5 +1,5 @@
 -- Refusals 8 and 4, then the hit: a law a way out, in the code's own words; and what a look says of a call. Assumes nothing.
-use Prim.Native.Nat.{ℕ, _%_, _/_}
+use Prim.Native.Nat.{ℕ, _+_, _*_, _≤_, _%_, _/_}
 use native.Mathlib.Omega.{arith}
 use native.Mathlib.Decide.{ℕ-discrete}
 use mathlib.Core.Path.{_≡_, refl, sym, ap, _∙_, subst}
@@ -11,14 +11,15 @@ use lib.ListN.{length, getD}
 use lib.Dec.{eqb}
 use borrow.Author.Tests.{eq-eqb, ne-eqb}
 use Rattle.model.specs.Choice.{any, choose, first}
-use Rattle.model.specs.Memory.{Mem, damaged, place}
+use Rattle.model.specs.Memory.{Mem, damaged, mem, place}
 use Rattle.model.specs.Shape.{Shape, Ways, shape-of}
 use Rattle.model.specs.Calls.{Outcome, busy, held, home-damage, refuse}
 use Rattle.model.proofs.ListLaws.{bool}
 use Rattle.home_words.specs.HomeWords.{found-word, home-words, leads}
-use Rattle.looking.specs.Look.{HomesIn, LooksUp, Passed, look-of, look-word, own-word}
+use Rattle.home_words.proofs.Sound.{found-in}
+use Rattle.looking.specs.Look.{HomesIn, LooksUp, Passed, look-of, look-word, own-word, own-words}
 use Rattle.looking.proofs.Early.{asked-now, past-early}
-use Rattle.looking.proofs.OwnWords.{damage-is, held-word, hit-is, odd-is, word-place}
+use Rattle.looking.proofs.OwnWords.{damage-is, damage-words, held-word, hit-is, odd-is, word-place}
 use Rattle.hashing.specs.declared.Homes.{Homes}
 use Rattle.looking.specs.declared.Look.{Look}
 use Rattle.looking.specs.declared.Look.the-variants as look
@@ -58,6 +59,29 @@ module _ (W : Ways) (m : Mem) (x : ℕ) {h : Homes} (hs : HomesIn W m x h) {b : 
 
       pub look-at : w ≢ 0 → LooksUp W m x (looked (look.At w))
       look-at nz = record { look-is = sym (word-now ∙ ap (λ b. choose b look.Absent (look.At w)) (ne-eqb w 0 nz)); homes-are = hs }
+
+-- the place of a hit lies in the items: no home word is damaged
+pub look-inside : (W : Ways) (s c i : List ℕ) (x : ℕ) {r : Looked} → LooksUp W (mem s c i) x r → {w : ℕ} → r .look ≡ look.At w → 4 * (w % 65536) + 4 ≤ length i
+unfolding place
+look-inside W s c i x l {w} e = go (busy Z m x) (home-damage Z m x) (own-word W m x) refl refl (sym (l .look-is) ∙ e)
+  where
+    m : Mem
+    m = mem s c i
+
+    Z : Shape
+    Z = shape-of W m
+
+    go : (b d : Bool) (v : ℕ) → home-damage Z m x ≡ d → v ≡ own-word W m x → choose b (look.Refused 8) (choose d (look.Refused 4) (look-word W v)) ≡ look.At w
+        → 4 * (w % 65536) + 4 ≤ length i
+    go true d v h f q = let z : _≡_ {A = ℕ} 0 1 = cc in absurd (omega arith)
+    go false true v h f q = let z : _≡_ {A = ℕ} 0 1 = cc in absurd (omega arith)
+    go false false v h f q =
+        dite (ℕ-discrete v 0)
+        (λ z. let k : choose (eqb v 0) look.Absent (look.At v) ≡ look.Absent = rw (eq-eqb v 0 z) in let n : _≡_ {A = ℕ} 0 1 = cc in absurd (omega arith))
+        λ nz. let k : choose (eqb v 0) look.Absent (look.At v) ≡ look.At v = rw (ne-eqb v 0 nz) in
+        let same : v ≡ w = cc in
+        let pos : 1 ≤ Z .tag-of x = rw (← l .homes-are .tag-is) (l .homes-are .tag-low) in
+        omega (arith, same, found-in (length i / 4) (Z .tag-of x) pos i x (own-words W m x) (damage-words W m x ∙ h) f nz)
 
 -- what a look says of a call about animal x, where o is what comes behind refusals 8 and 4
 module _ (W : Ways) (m : Mem) (x : ℕ) (bad : Bool) (o : Outcome) where

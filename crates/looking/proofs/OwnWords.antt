@@ -42,7 +42,7 @@ module _ (W : Ways) (m : Mem) (x : ℕ) where
   abbrev Y : Shape
   Y = shape-of W m
 
-  damage-words : any (damaged (length (m .items) / 4)) (own-words W m x) ≡ home-damage Y m x
+  pub damage-words : any (damaged (length (m .items) / 4)) (own-words W m x) ≡ home-damage Y m x
   damage-words =
       ap there (first-map (damaged (length (m .items) / 4)) (word m) (homes Y x))
       ∙ there-mapped (word m) (first (λ i. damaged (length (m .items) / 4) (word m i)) (homes Y x))

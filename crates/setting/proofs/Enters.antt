@@ -69,13 +69,13 @@ update-made c w g {l = l} e d s =
     does-one {l = l} (stored 0 0) (update c (w % 65536) (g .permission) (stamp-of g)) refl (rw e at (d s))
 
 -- a set of a held animal: its list is late, or it is not
-module _ (c w : ℕ) (g : Grant) (i : List ℕ) {t : ℕ} (et : t ≡ getD i (4 * (w % 65536) + 2) 0) {b : Bool} (eb : b ≡ late t g) where
+module _ (c w : ℕ) (g : Grant) (i : List ℕ) {b : Bool} (e : b ≡ late (getD i (4 * (w % 65536) + 2) 0) g) where
   pub held-late : {k : ℕ} {n : List ℕ} → b ≡ true → (s : List ℕ) → Does (set-held i c (place w) g) k (mem s n i) (mem s n i) (refused 11)
   unfolding place
-  held-late q s = does-refuse (ap (λ b. choose b (refuse 11) (updated c (w % 65536) g)) (rw et at (sym eb ∙ q)))
+  held-late q s = does-refuse (ap (λ b. choose b (refuse 11) (updated c (w % 65536) g)) (sym e ∙ q))
 
   pub held-timely : {k : ℕ} {n n′ i′ : List ℕ} {a : Answer} → b ≡ false
       → ((s : List ℕ) → Does (updated c (place w) g) k (mem s n i) (mem s n′ i′) a)
       → (s : List ℕ) → Does (set-held i c (place w) g) k (mem s n i) (mem s n′ i′) a
   unfolding place
-  held-timely q d s = does-as (sym (ap (λ b. choose b (refuse 11) (updated c (w % 65536) g)) (rw et at (sym eb ∙ q)))) (d s)
+  held-timely q d s = does-as (sym (ap (λ b. choose b (refuse 11) (updated c (w % 65536) g)) (sym e ∙ q))) (d s)

@@ -2,7 +2,8 @@
 ghost use mathlib.Core.Path.{_≡_};
 ghost use mathlib.Core.Bool.{true};
 ghost use mathlib.Core.List.{List};
-ghost use Prim.Native.Nat.{ℕ, _^_};
+ghost use Prim.Native.Nat.{ℕ, _+_, _*_, _%_, _^_, _≤_};
+ghost use lib.ListN.{length};
 ghost use Rattle.model.specs.Memory.{mem, place};
 ghost use Rattle.model.specs.Shape.{Ways, four, right-lengths};
 ghost use Rattle.model.specs.Calling.{set-animal};
@@ -174,12 +175,12 @@ fn set_held(
     g: Grant,
     k: u64,
 ) -> Setting
+    requires { ⌜ 4 * (w % 65536) + 4 ≤ length (now items) ⌝ }
     ensures { λ r. ⌜ ((s : List ℕ) → Does (set-held (now (items .entry)) (homes .counter) (place w) g) k
         (mem s (now (counters .entry)) (now (items .entry))) (mem s (now (counters .exit)) (now (items .exit))) (said-setting r)) ⌝ }
 {
     let at = 4 * ((w % 65536) as usize);
-    let stamp = runs::get64(items, at + 2);
-    if ageing::is_late(stamp, g) {
+    if ageing::is_late(items[at + 2], g) {
         return Setting::Refused(11);
     }
     update_held(counters, items, homes, w, g, k)

@@ -8,5 +8,5 @@ pub set-held-spec : {M : Type 1} → statement M
 set-held-spec =
     tie.close
     (tie.spec
-    (λ c. search needs) (λ c. search needs) (λ c. search needs) (λ c κs. search needs) (λ c κs. search needs) (λ c. search needs)
+    (λ c. search needs) (λ c. search needs) (λ c. search needs) (λ c. search needs) (λ c. search needs) (λ c κs. search needs)
     (λ c. search held-late) (λ c κs. search needs) (λ c. search needs) (λ c. search needs) (λ c. search held-timely))
