@@ -43,5 +43,6 @@ pub mod Demand1
 pub mod Demands
 pub mod Never
 pub mod FreshAnywhere
+pub mod FromIssue
 pub mod Linked
 pub mod Theorems

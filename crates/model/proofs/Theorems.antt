@@ -5,6 +5,7 @@ use Rattle.model.proofs.Demands as demands
 use Rattle.model.proofs.Never as never
 use Rattle.model.proofs.FreshAnywhere as anywhere
 use Rattle.model.proofs.NoTen as ten
+use Rattle.model.proofs.FromIssue as issue
 use Rattle.model.proofs.Late as late
 use Rattle.model.proofs.Linked as linked
 use Rattle.model.proofs.Paper as paper
@@ -24,6 +25,7 @@ owed =
       fresh-anywhere = anywhere.gate-fresh-anywhere;
       never-ten = ten.never-ten four;
       well-story = demands.well-story four;
+      age-from-issue = issue.age-from-issue;
       late-refused = late.late-refused;
       stamps-rise = late.stamps-rise;
       leaves-lent = linked.leaves-lent four;

@@ -1,4 +1,4 @@
--- The three demands, over any table; and, beyond the order, that no entry is ever lost. Assumes nothing.
+-- The three demands, over any table; and, beyond the order, that no entry is ever lost and that age runs from issue. Assumes nothing.
 use Prim.Native.Nat.{ℕ, _+_, _-_, _*_, _/_, _^_, _<_, _≤_, _%_}
 use mathlib.Core.Path.{_≡_}
 use mathlib.Core.Logic.{_≢_, _↔_, _⊎_}
@@ -14,7 +14,7 @@ use Rattle.model.specs.Calling.{Call, read, serve, set-animal, Event, ma
 use Rattle.model.specs.Answers.{Answer, refused, fresh, stored, started, Listed}
 use Rattle.model.specs.Age.{no-minute, standing-mark}
 use Rattle.model.specs.Calls.{hits}
-use Rattle.model.specs.Row.{walk-to, row-event, row-late, plain, beyond}
+use Rattle.model.specs.Row.{walk-to, row-event, row-late, row-says, plain, beyond}
 use Rattle.model.specs.declared.Grant.{Grant}
 use Rattle.model.specs.AnyTable.{Table, leaves, cut-at, left, beside}
 
@@ -191,3 +191,10 @@ module _ (W : Ways) where
   abbrev pub NeverLost : Table → Type 0
   NeverLost T = (s : Story) (c : Call) → Typed c → HasCut c → (x p : ℕ) → x ≢ 0 → walk-to (row T s) x (places s) 0 ≡ some p
       → x ≢ gone c (T .answer (table T s) (did c)) → (k : ℕ) → Stands (shape-in s) (cut-at T k (table T s) (did c)) x
+
+  -- Age runs from issue, wish 1's first words, of any table: after a set that was stored and isn't standing, whenever it came, a read
+  -- says what its permission and its minute of issue say
+  abbrev pub AgeFromIssue : Table → Type 0
+  AgeFromIssue T = (s : Story) (g : Grant) → Typed (set-animal g) → g .standing ≡ false
+      → (v n : ℕ) → T .answer (table T s) (did (set-animal g)) ≡ stored v n → (limit now : ℕ) → limit ≤ 10080 → now ≢ no-minute
+      → reads T (leaves T (table T s) (did (set-animal g))) (g .animal) limit now ≡ row-says limit now (g .permission) (g .issued)

@@ -14,7 +14,7 @@ use Rattle.model.specs.Lent.{after-fresh, lent-after, lent-call, lent-cu
 use Rattle.model.specs.Late.{LateRefused, StampsRise}
 use Rattle.model.specs.WellFormed.{WellFormed}
 use Rattle.model.specs.AnyTable.{cut-at, leaves}
-use Rattle.model.specs.Demands.{Demand1, Demand2, Demand3, FreshAnywhere, NeverLost, Story, shape-in, table}
+use Rattle.model.specs.Demands.{AgeFromIssue, Demand1, Demand2, Demand3, FreshAnywhere, NeverLost, Story, shape-in, table}
 use Rattle.model.specs.Ours.{gate, ours}
 use Rattle.model.specs.declared.Grant.{Grant}
 use Rattle.model.specs.Examples.{AllHold, cuts, edges, examples, late-lists, one-hurt, refusals, row-edges, row-examples, turns, two-tags}
@@ -33,7 +33,8 @@ pub record Owed : Type 0 where
   pub fresh-anywhere : FreshAnywhere gate
   pub never-ten : (m : Mem) (hand : ℕ) → lent-call four m (evict hand) .answer ≢ refused 10
   pub well-story : (s : Story four) → WellFormed (shape-in four s) (table four gate s)
-  -- wish 1, beyond its words: when 11 is given, and that no list lowers a stamp, on any memory, four ways or eight
+  -- wish 1: age runs from issue, after any run of finished calls; and, beyond its words, when 11 is given, and that no list lowers a stamp, on any memory, four ways or eight
+  pub age-from-issue : (W : Ways) → AgeFromIssue W (ours W)
   pub late-refused : (W : Ways) (m : Mem) (g : Grant) → LateRefused W m g
   pub stamps-rise : (W : Ways) (m : Mem) (g : Grant) → StampsRise W m g
   -- what the code's contracts cite is what the demands speak of
