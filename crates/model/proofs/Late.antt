@@ -26,7 +26,7 @@ use Rattle.model.specs.declared.Grant.{Grant}
 use Rattle.model.proofs.ListLaws.{bool, true-false}
 
 -- good minutes pass 3
-pub good-minutes : (g : Grant) → g .minute ≢ no-minute → g .issued ≤ g .minute → bad-grant g ≡ false
+good-minutes : (g : Grant) → g .minute ≢ no-minute → g .issued ≤ g .minute → bad-grant g ≡ false
 good-minutes g t i = rw (ne-eqb (g .minute) no-minute t, le-ltb (g .minute) (g .issued) i)
 
 pub good-grant : {g : Grant} → GoodInputs g → bad-grant g ≡ false
@@ -44,7 +44,7 @@ minutes-good g e =
 
 module _ (s : ℕ) (g : Grant) where
   -- a late list is what it is said to be
-  pub late-only : late s g ≡ true → (g .issued < s) × (s ≢ standing-mark) × (g .standing ≡ false)
+  late-only : late s g ≡ true → (g .issued < s) × (s ≢ standing-mark) × (g .standing ≡ false)
   late-only e = let t = three (ltb (g .issued) s) (eqb s standing-mark) (g .standing) e in (ltb-true (g .issued) s (t .0), eqb-false s standing-mark (t .1), t .2)
     where
       three : (a b c : Bool) → (a && (not b && not c)) ≡ true → (a ≡ true) × (b ≡ false) × (c ≡ false)
@@ -53,7 +53,7 @@ module _ (s : ℕ) (g : Grant) where
       three true true c e = true-false {b = true} refl (sym e)
       three false b c e = true-false {b = true} refl (sym e)
 
-  pub late-if : g .issued < s → s ≢ standing-mark → g .standing ≡ false → late s g ≡ true
+  late-if : g .issued < s → s ≢ standing-mark → g .standing ≡ false → late s g ≡ true
   late-if l n d = rw (lt-ltb (g .issued) s l, ne-eqb s standing-mark n, d)
 
 module _ (W : Ways) (m : Mem) (g : Grant) where

@@ -19,7 +19,7 @@ use Rattle.model.specs.declared.Grant.{Grant}
 use Rattle.model.specs.AnyTable.{Table, leaves, cut-at, left, beside}
 
 -- Demand 1. Every call ends, on any numbers and any memory contents, and asks nothing of its caller: that is what a table is. A refusal
--- is one number from document 01 and changes no word, whole or cut
+-- is one number of the list, document 01's or 11, and changes no word, whole or cut
 pub record Demand1 (T : Table) : Type 0 where
   pub listed : (m : Mem) (e : Event) (n : ℕ) → T .answer m e ≡ refused n → Listed n
   pub unchanged : (m : Mem) (e : Event) (n : ℕ) → T .answer m e ≡ refused n → leaves T m e ≡ m

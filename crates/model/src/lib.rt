@@ -1,4 +1,5 @@
-// The types that every crate shares: what each call answers. The meaning of document 01 stands in specs/, the proofs in proofs/.
+// The types that every crate shares: what each call answers. The meaning of document 01, and of the wishes that have landed, stands in specs/,
+// the proofs in proofs/.
 
 // What a set takes: the minute of issue and the minute of the call beside the animal and its permission.
 pub struct Grant {
