@@ -34,8 +34,8 @@ static void unlock(void) {
 /* The permission that the office gives a cow on a day: milking, grazing and hold in turn. */
 static uint32_t given(uint64_t cow, uint64_t day) { return (uint32_t)((cow + day) % 3); }
 
-/* Stores one permission, issued this minute. Where the table is full, a cow that was not here lately goes. All in one
-   locked part. */
+/* Stores one permission, issued this minute: here office and gate are one; a gate passes the minute that its list brings.
+   Where the table is full, a cow that was not here lately goes. All in one locked part. */
 static uint32_t store(uint64_t cow, uint32_t permission, uint64_t minute) {
     BoughladderSetting stored;
     lock();
