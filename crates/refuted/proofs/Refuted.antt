@@ -218,6 +218,16 @@ another-age-2 T v n a e r ne D =
     ∙ ap (λ b. row-event 3 0 (row-event 3 b (replicate 12 0) set-earlier .words) read-one .answer) (ap beyond e) in
     ne cc
 
+-- any table at all that stores a list of the minute before the one that it holds breaks demand 2: the row says 11
+pub takes-late-2 : (T : Table) (v n v′ n′ : ℕ) → T .answer (table four T none-yet) set-one ≡ stored v n
+    → T .answer (table four T one-in) set-earlier ≡ stored v′ n′ → Demand2 four T → ⊥
+unfolding computing
+takes-late-2 T v n v′ n′ e f D =
+    let told : stored 0 0 ≡ refused 11 = sym (ap plain f) ∙ D .as-row one-in set-earlier (omega arith, tt)
+    ∙ ap (λ t. row-event 3 t (row four T one-in) set-earlier .answer) (ap beyond f)
+    ∙ ap (λ b. row-event 3 0 (row-event 3 b (replicate 12 0) set-one .words) set-earlier .answer) (ap beyond e) in
+    true-false {b = false} (ap is-refusal told) refl
+
 -- a set that stamps the minute of arrival breaks demand 2
 pub stamps-arrival-2 : Demand2 four stamps-arrival → ⊥
 unfolding computing
