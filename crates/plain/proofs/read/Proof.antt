@@ -1,0 +1,8 @@
+-- `plain::read` meets its contract. Assumes nothing.
+use Rattle.plain.proofs.Walking.{says-one, says-two, says-three, says-walked}
+use borrow.Author.Needs.{needs}
+use Rattle.plain.proofs.read.Statement.{statement}
+use Rattle.plain.proofs.read.Tie as tie
+
+pub read-spec : {M : Type 1} → statement M
+read-spec = tie.close (tie.spec (λ c κs. search needs) (λ c. search says-one) (λ c. search says-two) (λ c κs. search needs) (λ c. search says-three) (λ c κs. search needs) (λ c. search says-walked))
