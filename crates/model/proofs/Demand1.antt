@@ -52,7 +52,7 @@ refusal k l n e = let f : k ≡ n = cc in (subst Listed f l, refl)
 told : (o : Outcome) → is-refusal (o .answer) ≡ false → Clean o
 told o f n e = true-false (ap is-refusal e) f
 
-judged : (l : List ℕ) (limit now : ℕ) (o : Option ℕ) → is-refusal (judge l limit now o) ≡ false
+pub judged : (l : List ℕ) (limit now : ℕ) (o : Option ℕ) → is-refusal (judge l limit now o) ≡ false
 unfolding verdict
 judged l limit now none = refl
 judged l limit now (some p) = go (is-fresh limit now (stamp l p)) (ltb now (stamp l p))

@@ -6,6 +6,7 @@ use mathlib.Core.Path.{_≡_, refl, sym, ap, _∙_}
 use mathlib.Core.Logic.{_≢_, ⊎-elim, _⊎_}
 use mathlib.Core.Bool.{Bool, true, false}
 use mathlib.Core.Option.{Option}
+use mathlib.Core.List.{List}
 use lib.Dec.{eqb, ltb}
 use borrow.Author.Tests.{eqb-false}
 use Rattle.model.specs.Choice.{choose}
@@ -26,6 +27,16 @@ verdict-mod : (limit now u s : ℕ) → verdict limit now (u % 2 ^ 32) s ≡ ver
 unfolding verdict
 verdict-mod limit now u s = ap (λ z. choose (is-fresh limit now s) (fresh z (age now s)) (choose (ltb now s) ahead (old (now - s)))) (mod-mod u (2 ^ 32))
 
+-- a place with the number, of which fresh is said
+pub held-in-time : (l : List ℕ) (x limit now v a p : ℕ) → x ≢ 0 → animal l p ≡ x → verdict limit now (permission l p) (stamp l p) ≡ fresh v a
+    → Holds l x limit now v p
+held-in-time l x limit now v a p nz here e =
+    let u = permission l p in
+    let s = stamp l p in
+    let small : u % 2 ^ 32 < 2 ^ 32 = mod-lt u (omega arith) in
+    let j = in-time l x limit now v a (u % 2 ^ 32) s (sym (says-is limit now (u % 2 ^ 32) s small) ∙ verdict-mod limit now u s ∙ e) in
+    record { real = nz; inside = inside-held l (4 * p) (rw here nz); animal-is = here; permission-is = j .0; in-time = j .1 }
+
 module _ (Y : Shape) (m : Mem) (x limit now v a : ℕ) where
   at-hit : x ≢ 0 → {o : Option ℕ} → First (hits Y m x) (homes Y x) o → judge (m .items) limit now (place-at m o) ≡ fresh v a
       → (p : ℕ) × Holds (m .items) x limit now v p
@@ -33,12 +44,7 @@ module _ (Y : Shape) (m : Mem) (x limit now v a : ℕ) where
   at-hit nz (missing h) e = not-fresh (m .items) x limit now v a absent refl e
   at-hit nz (found {i = i} q t) e =
       let p = place (word m i) in
-      let u = permission (m .items) p in
-      let s = stamp (m .items) p in
-      let small : u % 2 ^ 32 < 2 ^ 32 = mod-lt u (omega arith) in
-      let j = in-time (m .items) x limit now v a (u % 2 ^ 32) s (sym (says-is limit now (u % 2 ^ 32) s small) ∙ verdict-mod limit now u s ∙ e) in
-      let here : animal (m .items) p ≡ x = both-is (tag (word m i)) (Y .tag-of x) (animal (m .items) p) x t .1 in
-      (p, record { real = nz; inside = inside-held (m .items) (4 * p) (rw here nz); animal-is = here; permission-is = j .0; in-time = j .1 })
+      (p, held-in-time (m .items) x limit now v a p nz (both-is (tag (word m i)) (Y .tag-of x) (animal (m .items) p) x t .1) e)
 
   read-held : call Y m (read x limit now) .answer ≡ fresh v a → (p : ℕ) × Holds (m .items) x limit now v p
   unfolding hit

@@ -27,7 +27,7 @@ size-of n (k ∷ ks) h e =
     bool (λ b. choose b true (one-of n ks) ≡ true → eqb n k ≡ b → Size n) (eqb n k) (λ t e f. subst Size (sym (eqb-true n k f)) (h .0))
     (λ t e f. size-of n ks (h .1) e) e refl
 
-and-is : (b c : Bool) → (b && c) ≡ true → (b ≡ true) × (c ≡ true)
+pub and-is : (b c : Bool) → (b && c) ≡ true → (b ≡ true) × (c ≡ true)
 and-is true c e = (refl, e)
 and-is false c e = true-false e refl
 

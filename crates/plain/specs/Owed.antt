@@ -1,0 +1,78 @@
+-- What is owed of the plain engine: the wish's rule on any items, that it agrees with read, and, beyond the wish, why else the two
+-- differ and what fresh means. Assumes nothing.
+use Prim.Native.Nat.{ℕ, _/_, _<_, _≤_}
+use mathlib.Core.Path.{_≡_}
+use mathlib.Core.Logic.{_≢_, _↔_, _⊎_}
+use mathlib.Core.Bool.{true, false}
+use mathlib.Core.List.{List, [], _∷_}
+use lib.ListN.{length}
+use Rattle.model.specs.Choice.{one-of}
+use Rattle.model.specs.Memory.{Mem, animal, permission, stamp}
+use Rattle.model.specs.Shape.{Ways, good-items, right-lengths, shape-of}
+use Rattle.model.specs.Answers.{Answer, absent, fresh, refused}
+use Rattle.model.specs.Age.{no-minute, verdict}
+use Rattle.model.specs.Calling.{read}
+use Rattle.model.specs.Lent.{lent-call}
+use Rattle.model.specs.WellFormed.{WellFormed}
+use Rattle.model.specs.AnyTable.{Table}
+use Rattle.model.specs.Demands.{Holds, Story, reads, table}
+use Rattle.plain.specs.Plain.{plain-read}
+
+-- in the items l, place p is the first with number x
+pub record FirstWith (l : List ℕ) (x p : ℕ) : Type 0 where
+  pub inside : p < length l / 4
+  pub number : animal l p ≡ x
+  pub lowest : (q : ℕ) → q < p → animal l q ≢ x
+
+module _ (l : List ℕ) (x limit now : ℕ) where
+  abbrev said : Answer
+  said = plain-read l x limit now
+
+  -- 1, 2 and 3 are not due
+  pub record Answered : Type 0 where
+    pub long : good-items (length l) ≡ true
+    pub real : x ≢ 0
+    pub short : limit ≤ 10080
+    pub timely : now ≢ no-minute
+
+  -- On any items its answer is fixed by its own walk
+  pub record PlainSays : Type 0 where
+    -- refusals 1, for the length of the items only, 2 and 3, in their turn, and no other
+    pub one : good-items (length l) ≡ false → said ≡ refused 1
+    pub two : good-items (length l) ≡ true → x ≡ 0 → said ≡ refused 2
+    pub three-limit : good-items (length l) ≡ true → x ≢ 0 → 10080 < limit → said ≡ refused 3
+    pub three-now : good-items (length l) ≡ true → x ≢ 0 → now ≡ no-minute → said ≡ refused 3
+    pub no-other : (n : ℕ) → said ≡ refused n → one-of n (1 ∷ 2 ∷ 3 ∷ []) ≡ true
+    -- else the first place with that number is judged, its permission modulo 2^32; with no such place it is absent
+    pub first : Answered → (p : ℕ) → FirstWith l x p → said ≡ verdict limit now (permission l p) (stamp l p)
+    pub nowhere : Answered → ((p : ℕ) → p < length l / 4 → animal l p ≢ x) → said ≡ absent
+
+  -- fresh is said only if some place holds that number, standing or in time, with that permission modulo 2^32
+  abbrev pub PlainFresh : Type 0
+  PlainFresh = (v a : ℕ) → said ≡ fresh v a → (p : ℕ) × Holds l x limit now v p
+
+module _ (W : Ways) where
+  -- on every well-formed memory it says what read says, for every number, limit and minute
+  abbrev pub AgreesOn : Mem → Type 0
+  AgreesOn m = right-lengths W m ≡ true → WellFormed (shape-of W m) m → (x limit now : ℕ)
+      → plain-read (m .items) x limit now ≡ lent-call W m (read x limit now) .answer
+
+  -- so it does on every memory made by finished calls from fresh, of any table
+  abbrev pub PlainAgrees : Table → Type 0
+  PlainAgrees T = (s : Story W) (x limit now : ℕ) → plain-read (table W T s .items) x limit now ≡ reads W T (table W T s) x limit now
+
+  module _ (m : Mem) (x limit now : ℕ) where
+    abbrev pub read-says : Answer
+    read-says = lent-call W m (read x limit now) .answer
+
+    -- why the two may differ, on any memory
+    pub data Apart : Type 0 where
+      -- read refuses: busy, damaged, or the slots or the counters have a wrong length
+      refuses : {n : ℕ} → read-says ≡ refused n → one-of n (1 ∷ 8 ∷ 4 ∷ []) ≡ true → Apart
+      -- a place has the number, and no home slot leads to one
+      unreached : {p : ℕ} → p < length (m .items) / 4 → animal (m .items) p ≡ x → read-says ≡ absent → Apart
+      -- two places have the number
+      twins : {p q : ℕ} → p < q → q < length (m .items) / 4 → animal (m .items) p ≡ x → animal (m .items) q ≡ x → Apart
+
+    abbrev pub AgreesOrApart : Type 0
+    AgreesOrApart = (plain-read (m .items) x limit now ≡ read-says) ⊎ Apart
