@@ -10,6 +10,8 @@ use Rattle.model.specs.Said.{said-evicting, said-listing, said-reading, said-fi
 use Rattle.model.specs.Lent.{lent-call}
 use Rattle.model.specs.Promised.{CutAs, FreshAs, WholeAs}
 use Rattle.model.proofs.Demand1.{told-small}
+use Rattle.plain.specs.Plain.{plain-read}
+use Rattle.plain.proofs.Says.{plain-small}
 use Rattle.evicting.specs.Evict.{EvictCut, Evicted}
 use Rattle.listing.specs.List.{ListedAs}
 use Rattle.clothes.specs.Clothes.{evicting-clothes, listing-clothes, number, turned-clothes, reading-clothes, finding-clothes}
@@ -28,13 +30,16 @@ module _ (W : Ways) (m : Mem) (c : Call) where
   pub answer-small : {a : Answer} → a ≡ lent-call W m c .answer → number a < 65536
   answer-small e = rw e (told-small W m c)
 
-  pub told-read : (t : Reading) {r : BoughladderReading} → r ≡ reading-clothes (said-reading t) → said-reading t ≡ lent-call W m c .answer
-      → r ≡ reading-clothes (lent-call W m c .answer)
-  told-read t e h = e ∙ ap reading-clothes h
+-- the plain engine's is 1, 2 or 3
+pub plain-told-small : (l : List ℕ) (x limit now : ℕ) {a : Answer} → a ≡ plain-read l x limit now → number a < 65536
+plain-told-small l x limit now e = rw e (plain-small l x limit now)
 
-  pub told-find : (t : Finding) {r : BoughladderFinding} → r ≡ finding-clothes (said-finding t) → said-finding t ≡ lent-call W m c .answer
-      → r ≡ finding-clothes (lent-call W m c .answer)
-  told-find t e h = e ∙ ap finding-clothes h
+-- read, the plain engine and find
+pub told-read : {a : Answer} (t : Reading) {r : BoughladderReading} → r ≡ reading-clothes (said-reading t) → said-reading t ≡ a → r ≡ reading-clothes a
+told-read t e h = e ∙ ap reading-clothes h
+
+pub told-find : {a : Answer} (t : Finding) {r : BoughladderFinding} → r ≡ finding-clothes (said-finding t) → said-finding t ≡ a → r ≡ finding-clothes a
+told-find t e h = e ∙ ap finding-clothes h
 
 module _ (W : Ways) {m m′ : Mem} {c : Call} {R : Type 0} {clothes : Answer → R} {a : Answer} {r : R} (e : r ≡ clothes a) where
   pub told-whole : WholeAs W m c m′ a → WholeIn W clothes m c m′ r

@@ -7,6 +7,7 @@ ghost use Rattle.model.specs.Shape.{four};
 ghost use Rattle.model.specs.Hash.{fnv-step};
 ghost use Rattle.model.specs.Calling.{delete, evict, find, grant, read, serve, set-animal};
 ghost use Rattle.model.specs.Lent.{lent-call};
+ghost use Rattle.plain.specs.Plain.{plain-read};
 ghost use Rattle.clothes.specs.Clothes.{number, reading-clothes, finding-clothes, setting-clothes, evicting-clothes};
 ghost use Rattle.boughladder.specs.Dressed.{WholeIn, CutIn, FreshIn, ListIn};
 use clothes::BoughladderEvicting;
@@ -211,4 +212,18 @@ pub extern "C" fn boughladder_list(
 {
     let told = listing::list(slots, counters, items, buffer);
     clothes::dress_listing(told)
+}
+
+// The auditor's reader: the items are all that it takes.
+#[no_mangle]
+pub extern "C" fn boughladder_plain_read(
+    items: &[u64],
+    animal: u64,
+    limit: u64,
+    minute: u64,
+) -> BoughladderReading
+    ensures { λ r. ⌜ r ≡ reading-clothes (plain-read (now (items .entry)) animal limit minute) ⌝ }
+{
+    let told = plain::read(items, animal, limit, minute);
+    clothes::dress_reading(told)
 }

@@ -169,9 +169,11 @@ listed-small n (k ∷ ks) e s =
     small-rest true s = true-false {b = true} refl s
     small-rest false s = s
 
+pub small-number : (a : Answer) (ks : List ℕ) → ((n : ℕ) → a ≡ refused n → one-of n ks ≡ true) → any (leb 65536) ks ≡ false → paper a .number < 65536
+small-number a ks h s =
+    dite (ℕ-discrete (paper a .number) 0) (λ z. omega arith)
+    λ nz. listed-small (paper a .number) ks (h (paper a .number) (numbered a nz)) s
+
 pub told-small : (W : Ways) (m : Mem) (c : Call) → paper (lent-call W m c .answer) .number < 65536
 unfolding first
-told-small W m c =
-    let a = lent-call W m c .answer in
-    dite (ℕ-discrete (paper a .number) 0) (λ z. omega arith)
-    λ nz. listed-small (paper a .number) refusal-numbers (no-blocks W m c (paper a .number) (numbered a nz) .0) refl
+told-small W m c = small-number (lent-call W m c .answer) refusal-numbers (λ n e. no-blocks W m c n e .0) refl

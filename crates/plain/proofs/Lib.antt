@@ -1,7 +1,9 @@
+-- Where the definition says another thing than the wish, it shows here first
+pub mod AsWritten
 -- The code's walk
 pub mod Walking
 pub mod Decides
 -- What is owed
 pub mod Says
-pub mod Agrees
-pub mod Apart
+pub mod SameAsRead
+pub mod WhyApart

@@ -10,15 +10,15 @@ use mathlib.Core.List.{List, [], _∷_}
 use lib.ListN.{length}
 use lib.Dec.{eqb, ltb}
 use borrow.Author.Tests.{eq-eqb, eqb-false, eqb-true, ne-eqb, le-ltb, lt-ltb}
-use Rattle.model.specs.Choice.{choose, one-of, range}
+use Rattle.model.specs.Choice.{choose, first, one-of, range}
 use Rattle.model.specs.Memory.{animal}
 use Rattle.model.specs.Shape.{good-items}
-use Rattle.model.specs.Answers.{Answer, absent, fresh, refused}
+use Rattle.model.specs.Answers.{Answer, absent, fresh, paper, refused}
 use Rattle.model.specs.Age.{bad-time, judge, no-minute}
 use Rattle.model.specs.Row.{walk-to}
 use Rattle.model.specs.Demands.{Holds}
 use Rattle.model.proofs.ListLaws.{First, bool, found, in-range, missing, true-false, walk-is}
-use Rattle.model.proofs.Demand1.{is-refusal, judged}
+use Rattle.model.proofs.Demand1.{is-refusal, judged, small-number}
 use Rattle.model.proofs.Runs.{not-fresh}
 use Rattle.model.proofs.FreshAnywhere.{held-in-time}
 use Rattle.plain.specs.Plain.{plain-read}
@@ -88,6 +88,11 @@ module _ (l : List ℕ) (x limit now : ℕ) where
     where
       no-time : now ≡ no-minute → bad-time limit now ≡ true
       no-time e = rw (eq-eqb now no-minute e) (or-true (ltb 10080 limit))
+
+  -- so its number is small
+  pub plain-small : paper (plain-read l x limit now) .number < 65536
+  unfolding first
+  plain-small = small-number (plain-read l x limit now) (1 ∷ 2 ∷ 3 ∷ []) (plain-says .no-other) refl
 
   pub plain-fresh : PlainFresh l x limit now
   plain-fresh v a e = go (good-items (length l)) (eqb x 0) (bad-time limit now) (eqb-false x 0) (sym (by-tests refl refl refl) ∙ e)

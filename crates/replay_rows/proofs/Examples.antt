@@ -13,6 +13,8 @@ use Rattle.model.specs.Clock.{next-hand, passed-recent, seek-victim}
 use Rattle.model.specs.Listing.{list-record, listing, live-count, records}
 use Rattle.model.specs.Calls.{hit, hits, slot-of, some-live, vacant-place}
 use Rattle.model.specs.Stores.{stores}
+use Rattle.model.specs.Row.{walk-to}
+use Rattle.plain.specs.Plain.{plain-read}
 use Rattle.replay_words.specs.Words.{all-digits, before, filled, lines, number, mark-length, number-from, pieces, same, value, without-comment, without-mark, without-return, words}
 use Rattle.replay_print.specs.Text.{bytes}
 use Rattle.replay_print.specs.Print.{decimal-of, digits, hex-digit, hex-of, hexes, numbered, record-lines, told}
@@ -21,7 +23,7 @@ use Rattle.replay_lines.specs.Taking.{bound, taken, takes}
 use Rattle.replay_lines.specs.Reasons.{behind, furthest, instead, parting, why-not}
 use Rattle.replay_lines.specs.Line.{Said, first-row, fitting, said, said-by}
 use Rattle.replay_echo.specs.Echo.{behind as next-number, echo, filled-in, in-place}
-use Rattle.replay_rows.specs.Meaning.{asks, calls, cut-turns, cuts, hands, lists, meaning, pokes-counters, pokes-items, pokes-slots, starts, turns}
+use Rattle.replay_rows.specs.Meaning.{asks, audits, calls, cut-turns, cuts, hands, lists, meaning, pokes-counters, pokes-items, pokes-slots, starts, turns}
 use Rattle.replay_rows.specs.Replayed.{answers, language, missed, missed-in, replayed, reply-to, shown, status}
 
 abbrev row : ℕ → List ℕ → Said
@@ -47,42 +49,45 @@ pub understood :
     × (said language (bytes "poke items 0 9") ≡ row 14 (0 ∷ 9 ∷ []))
     × (said language (bytes "dump") ≡ row 15 ([]))
     × (said language (bytes "# set 7 15 20 30") ≡ row 17 ([]))
+    × (said language (bytes "plain 1 2 3") ≡ row 18 (1 ∷ 2 ∷ 3 ∷ []))
 unfolding said said-by first-row fitting taken bound lines words pieces filled before same number number-from value all-digits without-comment without-return
-understood = (refl, refl, refl, refl, refl, refl, refl, refl, refl, refl, refl, refl, refl, refl, refl, refl, refl, refl, refl)
+understood = (refl, refl, refl, refl, refl, refl, refl, refl, refl, refl, refl, refl, refl, refl, refl, refl, refl, refl, refl, refl)
 
--- no row fits: there are 18, and the number is the reason
+-- no row fits: there are 19, and the number is the reason
 pub not-understood :
-    (said language (bytes "hand 18446744073709551616") ≡ row 18 (3 ∷ []))
-    × (said language (bytes "hand +1") ≡ row 18 (0 ∷ []))
-    × (said language (bytes "hand 1a") ≡ row 18 (0 ∷ []))
-    × (said language (bytes "hand") ≡ row 18 (1 ∷ []))
-    × (said language (bytes "hand 1 1") ≡ row 18 (2 ∷ []))
-    × (said language (bytes "set 1 4294967296 2 3") ≡ row 18 (3 ∷ []))
-    × (said language (bytes "set 1 2 3 4 standin") ≡ row 18 (0 ∷ []))
-    × (said language (bytes "set 1 2 3 4 standing 5") ≡ row 18 (2 ∷ []))
-    × (said language (bytes "set 1 2 3 standing") ≡ row 18 (0 ∷ []))
-    × (said language (bytes "set 1 2 3") ≡ row 18 (1 ∷ []))
-    × (said language (bytes "fresh 1 2") ≡ row 18 (1 ∷ []))
-    × (said language (bytes "evict 1") ≡ row 18 (2 ∷ []))
-    × (said language (bytes "Dump") ≡ row 18 (0 ∷ []))
-    × (said language (bytes "dumps") ≡ row 18 (0 ∷ []))
-    × (said language (bytes "dump\r\r") ≡ row 18 (0 ∷ []))
-    × (said language (bytes "cut 5 read 1 2 3") ≡ row 18 (0 ∷ []))
-    × (said language (bytes "cut evict") ≡ row 18 (0 ∷ []))
-    × (said language (bytes "list 81921 5") ≡ row 18 (3 ∷ []))
-    × (said language (bytes "poke") ≡ row 18 (1 ∷ []))
-    × (said language (bytes "12 13") ≡ row 18 (0 ∷ []))
-    × (said language (bytes "poke 0 9") ≡ row 18 (0 ∷ []))
+    (said language (bytes "hand 18446744073709551616") ≡ row 19 (3 ∷ []))
+    × (said language (bytes "hand +1") ≡ row 19 (0 ∷ []))
+    × (said language (bytes "hand 1a") ≡ row 19 (0 ∷ []))
+    × (said language (bytes "hand") ≡ row 19 (1 ∷ []))
+    × (said language (bytes "hand 1 1") ≡ row 19 (2 ∷ []))
+    × (said language (bytes "set 1 4294967296 2 3") ≡ row 19 (3 ∷ []))
+    × (said language (bytes "set 1 2 3 4 standin") ≡ row 19 (0 ∷ []))
+    × (said language (bytes "set 1 2 3 4 standing 5") ≡ row 19 (2 ∷ []))
+    × (said language (bytes "set 1 2 3 standing") ≡ row 19 (0 ∷ []))
+    × (said language (bytes "set 1 2 3") ≡ row 19 (1 ∷ []))
+    × (said language (bytes "fresh 1 2") ≡ row 19 (1 ∷ []))
+    × (said language (bytes "evict 1") ≡ row 19 (2 ∷ []))
+    × (said language (bytes "Dump") ≡ row 19 (0 ∷ []))
+    × (said language (bytes "dumps") ≡ row 19 (0 ∷ []))
+    × (said language (bytes "dump\r\r") ≡ row 19 (0 ∷ []))
+    × (said language (bytes "cut 5 read 1 2 3") ≡ row 19 (0 ∷ []))
+    × (said language (bytes "cut evict") ≡ row 19 (0 ∷ []))
+    × (said language (bytes "list 81921 5") ≡ row 19 (3 ∷ []))
+    × (said language (bytes "poke") ≡ row 19 (1 ∷ []))
+    × (said language (bytes "12 13") ≡ row 19 (0 ∷ []))
+    × (said language (bytes "poke 0 9") ≡ row 19 (0 ∷ []))
+    × (said language (bytes "plain 1 2") ≡ row 19 (1 ∷ []))
+    × (said language (bytes "cut 5 plain 1 2 3") ≡ row 19 (0 ∷ []))
 unfolding said said-by first-row fitting taken bound lines words pieces filled before same number number-from value all-digits without-comment without-return why-not furthest parting takes behind instead
-not-understood = (refl, refl, refl, refl, refl, refl, refl, refl, refl, refl, refl, refl, refl, refl, refl, refl, refl, refl, refl, refl, refl)
+not-understood = (refl, refl, refl, refl, refl, refl, refl, refl, refl, refl, refl, refl, refl, refl, refl, refl, refl, refl, refl, refl, refl, refl, refl)
 
 -- a cow that is set, read, served and deleted but for one store; another that stays; and what is answered to the rest
 abbrev day : List ℕ
-day = bytes "# a day of one cow\nfresh 8 1 4\nset 1 5 2 3\nread 1 720 2\nserve\t1 0 9\ncut 1 delete 1\nread 1 720 3\nfresh 8 1 8\nset 7 4294967295 5 6 standing\nread 7 0 9\ncut 3 evict\nhand 1\nevict\nlist 20\nset 1 4294967296 2 3\npoke items 4 9\npoke slots 8 1\nlist 81921\ndump"
+day = bytes "# a day of one cow\nfresh 8 1 4\nset 1 5 2 3\nread 1 720 2\nserve\t1 0 9\ncut 1 delete 1\nread 1 720 3\nplain 1 720 3\nfresh 8 1 8\nset 7 4294967295 5 6 standing\nread 7 0 9\ncut 3 evict\nhand 1\nevict\nlist 20\nset 1 4294967296 2 3\npoke items 4 9\npoke slots 8 1\nlist 81921\ndump"
 
 pub day-answered : answers false day
-    ≡ bytes "fresh\nstored 1 0\nfresh 5 0\nold 7\ndeleted\nrefused 8\nfresh\nstored 1 0\nfresh 4294967295 0\nevicted 7 3 1\nhand\nrefused 8\nlisted 1\n0700000000000000ffffffffffffffffffffffff\nline 15: not understood: number too large\npoked\nno such word\nline 18: not understood: number too large\nslots 0 0 0 0 0 0 0 0\ncounters 3\nitems 7 4294967295 18446744073709551615 0 9 0 0 0\n"
-unfolding replayed reply-to shown meaning starts asks calls cuts turns cut-turns hands lists pokes-slots pokes-counters pokes-items said said-by first-row fitting taken bound why-not furthest parting takes behind instead lines words pieces filled before same number number-from value all-digits without-comment without-return without-mark mark-length told numbered reason decimal-of digits record-lines hexes hex-of hex-digit hash fnv fnv-step low-bytes tag-from odd-up spread other-bucket tag place damaged range first good-lengths good-slots good-counters good-items hits hit vacant-place some-live visits next-level hops first-free free-slot lowest climb is-fresh age verdict next-hand seek-victim passed-recent slot-of list-record records live-count listing stores
+    ≡ bytes "fresh\nstored 1 0\nfresh 5 0\nold 7\ndeleted\nrefused 8\nfresh 5 1\nfresh\nstored 1 0\nfresh 4294967295 0\nevicted 7 3 1\nhand\nrefused 8\nlisted 1\n0700000000000000ffffffffffffffffffffffff\nline 16: not understood: number too large\npoked\nno such word\nline 19: not understood: number too large\nslots 0 0 0 0 0 0 0 0\ncounters 3\nitems 7 4294967295 18446744073709551615 0 9 0 0 0\n"
+unfolding replayed reply-to shown meaning starts asks calls cuts turns cut-turns hands lists pokes-slots pokes-counters pokes-items audits plain-read walk-to said said-by first-row fitting taken bound why-not furthest parting takes behind instead lines words pieces filled before same number number-from value all-digits without-comment without-return without-mark mark-length told numbered reason decimal-of digits record-lines hexes hex-of hex-digit hash fnv fnv-step low-bytes tag-from odd-up spread other-bucket tag place damaged range first good-lengths good-slots good-counters good-items hits hit vacant-place some-live visits next-level hops first-free free-slot lowest climb is-fresh age verdict next-hand seek-victim passed-recent slot-of list-record records live-count listing stores
 day-answered = refl
 
 -- a text behind a byte order mark, with the calls shown, and how many of its lines are not understood
@@ -92,7 +97,7 @@ hour = 239 ∷ 187 ∷ 191 ∷ bytes "fresh 8 1 4\n\n# two lines without a call\
 pub hour-answered : (answers true hour
     ≡ bytes "1: fresh 8 1 4 -> fresh\n4: read 1 720 2 -> absent\n5: list 20 -> listed 0\nline 6: not understood: too few numbers\n7: dump -> slots 0 0 0 0 0 0 0 0\ncounters 0\nitems 0 0 0 0\n")
     × (missed hour ≡ 1)
-unfolding missed-in echo filled-in in-place next-number replayed reply-to shown meaning starts asks calls cuts turns cut-turns hands lists pokes-slots pokes-counters pokes-items said said-by first-row fitting taken bound why-not furthest parting takes behind instead lines words pieces filled before same number number-from value all-digits without-comment without-return without-mark mark-length told numbered reason decimal-of digits record-lines hexes hex-of hex-digit hash fnv fnv-step low-bytes tag-from odd-up spread other-bucket tag place damaged range first good-lengths good-slots good-counters good-items hits hit vacant-place some-live visits next-level hops first-free free-slot lowest climb is-fresh age verdict next-hand seek-victim passed-recent slot-of list-record records live-count listing stores
+unfolding missed-in echo filled-in in-place next-number replayed reply-to shown meaning starts asks calls cuts turns cut-turns hands lists pokes-slots pokes-counters pokes-items audits plain-read walk-to said said-by first-row fitting taken bound why-not furthest parting takes behind instead lines words pieces filled before same number number-from value all-digits without-comment without-return without-mark mark-length told numbered reason decimal-of digits record-lines hexes hex-of hex-digit hash fnv fnv-step low-bytes tag-from odd-up spread other-bucket tag place damaged range first good-lengths good-slots good-counters good-items hits hit vacant-place some-live visits next-level hops first-free free-slot lowest climb is-fresh age verdict next-hand seek-victim passed-recent slot-of list-record records live-count listing stores
 hour-answered = (refl, refl)
 
 pub statuses : (status true 0 ≡ 0) × (status true 7 ≡ 2) × (status false 0 ≡ 1) × (status false 7 ≡ 1)

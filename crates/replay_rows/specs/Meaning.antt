@@ -11,6 +11,7 @@ use Rattle.model.specs.Shape.{four, shape, good-lengths, fresh-memory}
 use Rattle.model.specs.Calling.{Call, grant, read, serve, set-animal, delete, evict, write-list}
 use Rattle.model.specs.Answers.{Answer, started, refused, hand-back}
 use Rattle.model.specs.Lent.{lent-after, lent-call, lent-cut}
+use Rattle.plain.specs.Plain.{plain-read}
 use Rattle.replay_print.specs.Text.{bytes}
 use Rattle.replay_print.specs.Print.{line}
 use Rattle.replay_answers.specs.Text.{text, dump, not-understood, poke-told}
@@ -75,6 +76,10 @@ pokes-items i x w =
     reply (poke-told (can-poke 18446744073709551615 i x (w .memory .items)))
     (mem (w .memory .slots) (w .memory .counters) (poked 18446744073709551615 i x (w .memory .items))) (w .hand)
 
+-- the plain engine looks at the items and at nothing else
+unfoldable pub audits : ℕ → ℕ → ℕ → World → Reply
+audits x limit now w = says (text (plain-read (w .memory .items) x limit now)) w
+
 -- a row: what a line says, and what it means, by the numbers in it
 pub record Row : Type 0 where
   pub says : String
@@ -87,7 +92,8 @@ row s f = record { says = s; means = f }
 abbrev pub permission : ℕ → ℕ
 permission p = p % 2 ^ 32
 
--- the language: N a number, P a permission, B a number of bytes. The first row that fits is taken, so the calls of a gate's day stand first
+-- the language: N a number, P a permission, B a number of bytes. The first row that fits is taken, so the calls of a gate's day stand
+-- first; a wish's rows come last, so that no other row's number moves
 abbrev pub rows : List Row
 rows =
     row "serve N N N" (λ x. calls (serve (x 0) (x 1) (x 2)))
@@ -108,6 +114,7 @@ rows =
     ∷ row "dump" (λ x w. says (dump (w .memory)) w)
     ∷ row "fresh N N N" (λ x. starts (x 0) (x 1) (x 2))
     ∷ row "" (λ x w. says [] w)
+    ∷ row "plain N N N" (λ x. audits (x 0) (x 1) (x 2))
     ∷ []
 
 -- what line n means that follows row r with these numbers; with no row it is not understood, and its number says why

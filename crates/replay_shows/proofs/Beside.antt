@@ -11,6 +11,7 @@ use Rattle.model.specs.Memory.{Mem, mem}
 use Rattle.model.specs.Shape.{four}
 use Rattle.model.specs.Calling.{write-list}
 use Rattle.model.specs.Lent.{lent-call}
+use Rattle.plain.specs.Plain.{plain-read}
 use Rattle.buffer.specs.Put.{Put}
 use Rattle.replay_print.specs.Text.{bytes}
 use Rattle.replay_print.specs.Print.{line}
@@ -18,7 +19,7 @@ use Rattle.replay_answers.specs.Text.{text, dump, not-understood, poke-told}
 use Rattle.replay_rows.specs.Poke.{Poked}
 use Rattle.replay_rows.specs.declared.Turn.{Turn}
 use Rattle.replay_rows.specs.World.{Ample, World, Replied, world, longest}
-use Rattle.replay_rows.specs.Meaning.{Arm, Row, rows, asks, hands, lists, meant, meaning, pokes-slots, pokes-counters, pokes-items, says}
+use Rattle.replay_rows.specs.Meaning.{Arm, Row, rows, asks, audits, hands, lists, meant, meaning, pokes-slots, pokes-counters, pokes-items, says}
 
 -- the rows from 10 on
 module _ {m : Mem} {at : ℕ} {before after : List ℕ} {row : ℕ} (h n : ℕ) (xs : List ℕ) where
@@ -74,6 +75,11 @@ module _ {m : Mem} {at : ℕ} {before after : List ℕ} {row : ℕ} (h n : ℕ) 
     unfolding meaning
     as-dump e a p l = rw e (record { put = p; near = omega (arith, a .slots, a .counters, a .items); left = refl; hand = refl })
 
+    pub as-plain : row ≡ 18 → Put (text (plain-read (m .items) (getD xs 0 0) (getD xs 1 0) (getD xs 2 0))) at before after next → next ≤ at + 384
+        → Arm row n xs m h m at before after next
+    unfolding meaning audits
+    as-plain e p l = rw e (record { put = p; near = omega arith; left = refl; hand = refl })
+
 -- a line that follows no row
 past : (k r : ℕ) → k ≤ r → r ≢ k → k + 1 ≤ r
 past k r h ne = omega arith
@@ -84,11 +90,11 @@ beyond (t ∷ ts) zero n xs w h = absurd (omega arith)
 beyond (t ∷ ts) (suc r) n xs w h = beyond ts r n xs w (omega arith)
 
 module _ {m : Mem} {at h next : ℕ} {before after : List ℕ} {row : ℕ} (n : ℕ) (xs : List ℕ) where
-  pub as-not-understood : 10 ≤ row → row ≢ 16 → row ≢ 10 → row ≢ 11 → row ≢ 12 → row ≢ 13 → row ≢ 14 → row ≢ 15 → row ≢ 17
+  pub as-not-understood : 10 ≤ row → row ≢ 16 → row ≢ 10 → row ≢ 11 → row ≢ 12 → row ≢ 13 → row ≢ 14 → row ≢ 15 → row ≢ 17 → row ≢ 18
       → Put (not-understood n (getD xs 0 0)) at before after next → next ≤ at + 384 → Arm row n xs m h m at before after next
   unfolding meaning
-  as-not-understood lo n16 n10 n11 n12 n13 n14 n15 n17 p l =
-      let k : 18 ≤ row = past 17 row (past 16 row (past 15 row (past 14 row (past 13 row (past 12 row (past 11 row (past 10 row lo n10) n11) n12) n13) n14) n15) n16) n17 in
+  as-not-understood lo n16 n10 n11 n12 n13 n14 n15 n17 n18 p l =
+      let k : 19 ≤ row = past 18 row (past 17 row (past 16 row (past 15 row (past 14 row (past 13 row (past 12 row (past 11 row (past 10 row lo n10) n11) n12) n13) n14) n15) n16) n17) n18 in
       rw (beyond rows row n xs (world m h) k) (record { put = p; near = omega arith; left = refl; hand = refl })
 
 -- a blank line says nothing

@@ -1,4 +1,4 @@
-// The lines of a replay beside the table's calls: the hand, the list, a poke, a dump, and what is not understood.
+// The lines of a replay beside the table's calls: the hand, the list, a poke, a dump, the plain engine, and what is not understood.
 ghost use mathlib.Core.Path.{_≡_};
 ghost use mathlib.Core.Logic.{_≢_};
 ghost use Prim.Native.Nat.{_+_, _*_, _≤_, min};
@@ -7,6 +7,7 @@ ghost use Rattle.model.specs.Memory.{mem};
 ghost use Rattle.model.specs.Shape.{four};
 ghost use Rattle.model.specs.Calling.{write-list};
 ghost use Rattle.model.specs.Lent.{lent-call};
+ghost use Rattle.plain.specs.Plain.{plain-read};
 ghost use Rattle.buffer.specs.Put.{Put};
 ghost use Rattle.replay_answers.specs.Text.{text};
 ghost use Rattle.replay_rows.specs.World.{Ample, Replied, longest, world};
@@ -89,7 +90,23 @@ fn list_line(
     }
 }
 
-// The rows from 10 on but for fresh: the hand, a list, a poke, a dump, a blank line, and one that follows no row.
+// What the plain engine says, as its line.
+fn put_plain(
+    items: &[u64],
+    animal: u64,
+    limit: u64,
+    minute: u64,
+    out: &mut [u8],
+    at: usize,
+) -> usize
+    requires { ⌜ at + 384 ≤ length (now out) ⌝ }
+    ensures { λ r. ⌜ Put (text (plain-read (now (items .entry)) animal limit minute)) at (now (out .entry)) (now (out .exit)) r × (r ≤ at + 384) ⌝ }
+{
+    let said = plain::read(items, animal, limit, minute);
+    replay_answers::put_reading(out, at, said)
+}
+
+// The rows from 10 on but for fresh: the hand, a list, a poke, a dump, a blank line, the plain engine, and one that follows no row.
 pub fn beside_the_calls(
     row: usize,
     number: u64,
@@ -109,6 +126,7 @@ pub fn beside_the_calls(
 {
     let a = numbers[0];
     let b = numbers[1];
+    let c = numbers[2];
     match row {
         10 => Turn {
             next: replay_print::put_line(out, at, b"hand"),
@@ -141,6 +159,10 @@ pub fn beside_the_calls(
             hand,
         },
         17 => Turn { next: at, hand },
+        18 => Turn {
+            next: put_plain(items, a, b, c, out, at),
+            hand,
+        },
         _ => Turn {
             next: replay_answers::put_not_understood(out, at, number, a),
             hand,

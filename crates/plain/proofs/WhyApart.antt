@@ -21,7 +21,7 @@ use Rattle.model.proofs.Lent.{fit}
 use Rattle.plain.specs.Plain.{plain-read}
 use Rattle.plain.specs.Owed.{AgreesOrApart, read-says, refuses, twins, unreached}
 use Rattle.plain.proofs.Says.{by as plain-by, by-tests}
-use Rattle.plain.proofs.Agrees.{items-good}
+use Rattle.plain.proofs.SameAsRead.{items-good}
 
 module _ (W : Ways) (m : Mem) (x limit now : ℕ) where
   abbrev Y : Shape
