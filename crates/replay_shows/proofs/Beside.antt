@@ -9,6 +9,7 @@ use lib.ListN.{length, getD, take}
 use lib.Seq.{length-take-le}
 use Rattle.model.specs.Memory.{Mem, mem}
 use Rattle.model.specs.Shape.{four}
+use Rattle.model.specs.Answers.{Answer}
 use Rattle.model.specs.Calling.{write-list}
 use Rattle.model.specs.Lent.{lent-call}
 use Rattle.plain.specs.Plain.{plain-read}
@@ -79,6 +80,10 @@ module _ {m : Mem} {at : ℕ} {before after : List ℕ} {row : ℕ} (h n : ℕ) 
         → Arm row n xs m h m at before after next
     unfolding meaning audits
     as-plain e p l = rw e (record { put = p; near = omega arith; left = refl; hand = refl })
+
+-- the plain engine's line is that of what it said
+pub plain-line : {s a : Answer} {at r : ℕ} {before after : List ℕ} → s ≡ a → Put (text s) at before after r → Put (text a) at before after r
+plain-line e p = rw (← e) p
 
 -- a line that follows no row
 past : (k r : ℕ) → k ≤ r → r ≢ k → k + 1 ≤ r
