@@ -48,8 +48,8 @@ pub understood :
     × (said language (bytes "poke counters 0 9") ≡ row 13 (0 ∷ 9 ∷ []))
     × (said language (bytes "poke items 0 9") ≡ row 14 (0 ∷ 9 ∷ []))
     × (said language (bytes "dump") ≡ row 15 ([]))
-    × (said language (bytes "# set 7 15 20 30") ≡ row 17 ([]))
-    × (said language (bytes "plain 1 2 3") ≡ row 18 (1 ∷ 2 ∷ 3 ∷ []))
+    × (said language (bytes "plain 1 2 3") ≡ row 17 (1 ∷ 2 ∷ 3 ∷ []))
+    × (said language (bytes "# set 7 15 20 30") ≡ row 18 ([]))
 unfolding said said-by first-row fitting taken bound lines words pieces filled before same number number-from value all-digits without-comment without-return
 understood = (refl, refl, refl, refl, refl, refl, refl, refl, refl, refl, refl, refl, refl, refl, refl, refl, refl, refl, refl, refl)
 

@@ -93,7 +93,7 @@ abbrev pub permission : ℕ → ℕ
 permission p = p % 2 ^ 32
 
 -- the language: N a number, P a permission, B a number of bytes. The first row that fits is taken, so the calls of a gate's day stand
--- first; a wish's rows come last, so that no other row's number moves
+-- first, and the blank line last
 abbrev pub rows : List Row
 rows =
     row "serve N N N" (λ x. calls (serve (x 0) (x 1) (x 2)))
@@ -113,8 +113,8 @@ rows =
     ∷ row "poke items N N" (λ x. pokes-items (x 0) (x 1))
     ∷ row "dump" (λ x w. says (dump (w .memory)) w)
     ∷ row "fresh N N N" (λ x. starts (x 0) (x 1) (x 2))
-    ∷ row "" (λ x w. says [] w)
     ∷ row "plain N N N" (λ x. audits (x 0) (x 1) (x 2))
+    ∷ row "" (λ x w. says [] w)
     ∷ []
 
 -- what line n means that follows row r with these numbers; with no row it is not understood, and its number says why

@@ -76,7 +76,7 @@ module _ {m : Mem} {at : ℕ} {before after : List ℕ} {row : ℕ} (h n : ℕ) 
     unfolding meaning
     as-dump e a p l = rw e (record { put = p; near = omega (arith, a .slots, a .counters, a .items); left = refl; hand = refl })
 
-    pub as-plain : row ≡ 18 → Put (text (plain-read (m .items) (getD xs 0 0) (getD xs 1 0) (getD xs 2 0))) at before after next → next ≤ at + 384
+    pub as-plain : row ≡ 17 → Put (text (plain-read (m .items) (getD xs 0 0) (getD xs 1 0) (getD xs 2 0))) at before after next → next ≤ at + 384
         → Arm row n xs m h m at before after next
     unfolding meaning audits
     as-plain e p l = rw e (record { put = p; near = omega arith; left = refl; hand = refl })
@@ -103,7 +103,7 @@ module _ {m : Mem} {at h next : ℕ} {before after : List ℕ} {row : ℕ} (n : 
       rw (beyond rows row n xs (world m h) k) (record { put = p; near = omega arith; left = refl; hand = refl })
 
 -- a blank line says nothing
-pub as-blank : {m : Mem} {at h : ℕ} {before : List ℕ} {row : ℕ} (n : ℕ) (xs : List ℕ) → row ≡ 17 → Arm row n xs m h m at before before at
+pub as-blank : {m : Mem} {at h : ℕ} {before : List ℕ} {row : ℕ} (n : ℕ) (xs : List ℕ) → row ≡ 18 → Arm row n xs m h m at before before at
 unfolding meaning
 as-blank n xs e = rw e (record { put = record { bytes-put = refl; next = omega arith }; near = omega arith; left = refl; hand = refl })
 

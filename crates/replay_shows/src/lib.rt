@@ -106,7 +106,7 @@ fn put_plain(
     replay_answers::put_reading(out, at, said)
 }
 
-// The rows from 10 on but for fresh: the hand, a list, a poke, a dump, a blank line, the plain engine, and one that follows no row.
+// The rows from 10 on but for fresh: the hand, a list, a poke, a dump, the plain engine, a blank line, and one that follows no row.
 pub fn beside_the_calls(
     row: usize,
     number: u64,
@@ -158,11 +158,11 @@ pub fn beside_the_calls(
             next: replay_answers::put_dump(out, at, slots, counters, items),
             hand,
         },
-        17 => Turn { next: at, hand },
-        18 => Turn {
+        17 => Turn {
             next: put_plain(items, a, b, c, out, at),
             hand,
         },
+        18 => Turn { next: at, hand },
         _ => Turn {
             next: replay_answers::put_not_understood(out, at, number, a),
             hand,
