@@ -27,8 +27,8 @@
  *
  * One call at a time. No call, not even read, find or list, may run while a writing call runs on the same table.
  * Fresh, set, delete, evict and their cut forms write, and so does serve. Put one mutex around every call, as
- * examples/c/antenna.c does; examples/c/torn.c shows the wrong answers that come without it. Reads, finds and lists
- * beside each other are fine. Refusal 8 (busy) is no lock: it tells of a write that was cut off, not of one under way.
+ * examples/c/antenna.c does; examples/c/torn.c shows the wrong answers that come without it. Reads, plain reads, finds
+ * and lists beside each other are fine. Refusal 8 (busy) is no lock: it tells of a write that was cut off, not of one under way.
  *
  * The cut forms make only the first k stores of their call and answer as the whole call does: they show what a loss of
  * power leaves. A counter left odd by a cut makes its animals busy (refusal 8), and they stay busy until fresh.
@@ -65,9 +65,9 @@
    A caller of 1.0.0 does not compile: each set takes one minute more, and over a table a standing one takes two.
    What was compiled before does link, and passes its numbers one place off. So does this header with the archive of
    1.0.0, which takes now for standing: every permission is then fresh for ever. Compile and link everything again. */
-#define BOUGHLADDER_VERSION "2.0.0"
+#define BOUGHLADDER_VERSION "2.1.0"
 #define BOUGHLADDER_VERSION_MAJOR 2
-#define BOUGHLADDER_VERSION_MINOR 0
+#define BOUGHLADDER_VERSION_MINOR 1
 #define BOUGHLADDER_VERSION_PATCH 0
 
 /* Sizes: words of slots for n buckets, words of items for m places, bytes of a whole list of m places. V counters are
@@ -152,7 +152,7 @@ enum BoughladderKind {
 /* Where an animal goes. */
 enum BoughladderLane { BOUGHLADDER_HOLDING = 0, BOUGHLADDER_MILKING = 1, BOUGHLADDER_GRAZING = 2 };
 
-/* Read and serve, in 16 bytes: two registers. */
+/* Read, serve and plain read, in 16 bytes: two registers. */
 typedef struct BoughladderReading {
     uint16_t refusal;
     uint16_t kind;        /* absent, fresh, old or ahead */
@@ -196,7 +196,7 @@ typedef struct BoughladderRecord {
 } BoughladderRecord;
 
 /*
- * The plain calls: six arguments lend the table. The calls over a BoughladderTable below do the same with one.
+ * The calls over the runs: six arguments lend the table. The calls over a BoughladderTable below do the same with one.
  */
 
 /* Makes a table of the three runs: 0 in every word. The reply is the refusal number, 0 or 1.
@@ -274,12 +274,21 @@ BoughladderListing boughladder_list(const uint32_t *slots, size_t slots_length, 
                                     size_t counters_length, const uint64_t *items, size_t items_length,
                                     uint8_t *buffer, size_t buffer_length);
 
+/* Read by the plain engine, for an auditor who trusts no hashing: it walks the places in order and answers from the item
+   words alone, with no look at slots and counters. The first place with that number is judged as read judges, its
+   permission word modulo 2^32. On a table that finished calls have made it says what read says, for every number, limit
+   and minute. On any other memory it walks on where read refuses: its answer is no reason to open a gate.
+   It looks at every place in turn: up to 4096 of them. Refusals 1 (for the length of the items alone), 2, 3. */
+BOUGHLADDER_MUST_USE
+BoughladderReading boughladder_plain_read(const uint64_t *items, size_t items_length, uint64_t animal, uint64_t limit,
+                                          uint64_t now);
+
 /* One byte of the 32-bit FNV-1a hash, which decides an animal's buckets: start with h = 2166136261.
    For tests of a cabinet against the published vectors. */
 uint32_t boughladder_fnv_byte(uint32_t h, uint8_t byte);
 
-/* The lent memory in one piece. Through a pointer to const one may read, find and list; for any other call that is a
-   warning, in C++ an error. */
+/* The lent memory in one piece. Through a pointer to const one may read, read plainly, find and list; for any other call
+   that is a warning, in C++ an error. */
 typedef struct BoughladderTable {
     uint32_t *slots;
     size_t slots_length;
@@ -317,12 +326,12 @@ typedef struct BoughladderTable {
 #define BOUGHLADDER_DEMAND_(fact, name) (0 * sizeof(struct { char name[(fact) ? 1 : -1]; }))
 #endif
 
-/* The parts of a table, as the plain calls take them. */
+/* The parts of a table, as the calls over the runs take them. */
 #define BOUGHLADDER_LENT_(t) \
     (t)->slots, (t)->slots_length, (t)->counters, (t)->counters_length, (t)->items, (t)->items_length
 
 /*
- * The calls over a table. Replies and refusals are those of the plain call of the same name.
+ * The calls over a table. Replies and refusals are those of the call over the runs of the same name.
  */
 
 BOUGHLADDER_MUST_USE
@@ -399,6 +408,13 @@ BOUGHLADDER_MUST_USE
 static inline BoughladderListing boughladder_table_list(const BoughladderTable *table, uint8_t *buffer,
                                                         size_t buffer_length) {
     return boughladder_list(BOUGHLADDER_LENT_(table), buffer, buffer_length);
+}
+
+/* Of the table's items alone. */
+BOUGHLADDER_MUST_USE
+static inline BoughladderReading boughladder_table_plain_read(const BoughladderTable *table, uint64_t animal,
+                                                              uint64_t limit, uint64_t now) {
+    return boughladder_plain_read(table->items, table->items_length, animal, limit, now);
 }
 
 /*
