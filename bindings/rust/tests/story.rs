@@ -343,7 +343,7 @@ fn plainly(table: &Table, animal: u64, limit: u64, now: u64) -> Result<Reading, 
     said
 }
 
-// Plain read answers as read: for these animals, 0 and some that are absent, and for bad limits and minutes too.
+// Plain read answers as read: for these animals, 0 and absent ones, and for bad limits and minutes too.
 fn agree(table: &Table, animals: &[u64]) {
     for animal in animals.iter().copied().chain([0, 4799, u64::MAX]) {
         for limit in [0, 12, 720, LARGEST_LIMIT, LARGEST_LIMIT + 1, u64::MAX] {
