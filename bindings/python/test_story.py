@@ -319,6 +319,8 @@ class Story(unittest.TestCase):
         self.assertEqual(self.plainly(table, 8, 720, 770), fresh(1, 720))
         self.assertEqual(self.plainly(table, 9, 720, 820), Reading(ABSENT))
         self.assertEqual(self.plainly(table, 7 + 2 ** 32, 720, 820), Reading(ABSENT))
+        # It marks nobody.
+        self.assertEqual(table.items[8:], [7, 5, 100, 0])
 
         # A permission word above 32 bits is told modulo 2^32.
         for word, permission in ((2 ** 32 + 5, 5), (2 ** 32, 0), (2 ** 64 - 1, 2 ** 32 - 1)):

@@ -406,6 +406,8 @@ fn plain_read_judges() {
     assert_eq!(plainly(&table, 8, 720, 770), fresh(1, 720));
     assert_eq!(plainly(&table, 9, 720, 820), Ok(Reading::Absent));
     assert_eq!(plainly(&table, 7 + (1 << 32), 720, 820), Ok(Reading::Absent));
+    // It marks nobody.
+    assert_eq!(table.items[8..], [7, 5, 100, 0]);
 
     // A permission word above 32 bits is told modulo 2^32.
     for (word, permission) in [(5 + (1 << 32), 5), (1 << 32, 0), (u64::MAX, u32::MAX)] {
