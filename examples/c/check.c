@@ -114,8 +114,8 @@ static BoughladderReading walked(const Table *t, uint64_t animal, uint64_t limit
     return r;
 }
 
-/* On a table that finished calls have made, plain read answers as read: for every place's number, 0 too, and the next
-   number, at the edges of the limit and of the minutes. */
+/* On a table that finished calls have made, plain read answers as read: for every place's number, which is 0 where the
+   place is vacant, and for the next number; at the edges of the limit and of the minutes. */
 static void agree(const Table *t) {
     static const uint64_t limits[6] = {0, 1, 720, 10080, 10081, UINT64_MAX};
     for (size_t place = 0; place < t->i / 4; place++)
