@@ -291,8 +291,8 @@ BoughladderReading boughladder_plain_read(const uint64_t *items, size_t items_le
    For tests of a cabinet against the published vectors. */
 uint32_t boughladder_fnv_byte(uint32_t h, uint8_t byte);
 
-/* The lent memory in one piece. Through a pointer to const go read, plain read, find and list; any other call is a
-   warning, in C++ an error. */
+/* The lent memory in one piece. Read, plain read, find and list take a pointer to const; any other call through one is
+   a warning, in C++ an error. */
 typedef struct BoughladderTable {
     uint32_t *slots;
     size_t slots_length;
