@@ -25,10 +25,11 @@
  * milking, else bit 1 grazing, else holding. Every other answer and every refusal means holding. boughladder_lane says
  * all of this.
  *
- * One call at a time. No call, not even read, find or list, may run while a writing call runs on the same table.
- * Fresh, set, delete, evict and their cut forms write, and so does serve. Put one mutex around every call, as
- * examples/c/antenna.c does; examples/c/torn.c shows the wrong answers that come without it. Reads, finds and lists
- * beside each other are fine. Refusal 8 (busy) is no lock: it tells of a write that was cut off, not of one under way.
+ * One call at a time. No call, not even read, plain read, find or list, may run while a writing call runs on the same
+ * table. Fresh, set, delete, evict and their cut forms write, and so does serve. Put one mutex around every call, as
+ * examples/c/antenna.c does; examples/c/torn.c shows the wrong answers that come without it. Reads, plain reads, finds
+ * and lists beside each other are fine. Refusal 8 (busy) is no lock: it tells of a write that was cut off, not of one
+ * under way.
  *
  * The cut forms make only the first k stores of their call and answer as the whole call does: they show what a loss of
  * power leaves. A counter left odd by a cut makes its animals busy (refusal 8), and they stay busy until fresh.
@@ -64,10 +65,11 @@
 /* This header's version, as text and as numbers. The archive has none to ask for: ship both from one release.
    A caller of 1.0.0 does not compile: each set takes one minute more, and over a table a standing one takes two.
    What was compiled before does link, and passes its numbers one place off. So does this header with the archive of
-   1.0.0, which takes now for standing: every permission is then fresh for ever. Compile and link everything again. */
-#define BOUGHLADDER_VERSION "2.0.0"
+   1.0.0, which takes now for standing: every permission is then fresh for ever. Compile and link everything again.
+   A caller of 2.0.0 needs no change. One of plain read does not link with the archive of 2.0.0. */
+#define BOUGHLADDER_VERSION "2.1.0"
 #define BOUGHLADDER_VERSION_MAJOR 2
-#define BOUGHLADDER_VERSION_MINOR 0
+#define BOUGHLADDER_VERSION_MINOR 1
 #define BOUGHLADDER_VERSION_PATCH 0
 
 /* Sizes: words of slots for n buckets, words of items for m places, bytes of a whole list of m places. V counters are
@@ -152,7 +154,7 @@ enum BoughladderKind {
 /* Where an animal goes. */
 enum BoughladderLane { BOUGHLADDER_HOLDING = 0, BOUGHLADDER_MILKING = 1, BOUGHLADDER_GRAZING = 2 };
 
-/* Read and serve, in 16 bytes: two registers. */
+/* Read, serve and plain read, in 16 bytes: two registers. */
 typedef struct BoughladderReading {
     uint16_t refusal;
     uint16_t kind;        /* absent, fresh, old or ahead */
@@ -196,7 +198,8 @@ typedef struct BoughladderRecord {
 } BoughladderRecord;
 
 /*
- * The plain calls: six arguments lend the table. The calls over a BoughladderTable below do the same with one.
+ * The calls over the runs: six arguments lend the table, and two lend plain read its items. The calls over a
+ * BoughladderTable below do the same with one.
  */
 
 /* Makes a table of the three runs: 0 in every word. The reply is the refusal number, 0 or 1.
@@ -274,12 +277,22 @@ BoughladderListing boughladder_list(const uint32_t *slots, size_t slots_length, 
                                     size_t counters_length, const uint64_t *items, size_t items_length,
                                     uint8_t *buffer, size_t buffer_length);
 
+/* Read without hashing, for an auditor: it walks the places in order, takes the first with that number, and judges it
+   as read does, its permission word modulo 2^32. It needs the items alone, and is slower: it may walk all M places.
+   On a table that finished calls have made from fresh on, it answers as read does, for every number, limit and minute.
+   So where the two differ, a call was cut off, something else wrote, or other lengths were lent. It answers there too,
+   even where read refuses with 8 or 4, and that answer opens no gate.
+   Refusals 1 (for the length of the items), 2, 3, in this order. */
+BOUGHLADDER_MUST_USE
+BoughladderReading boughladder_plain_read(const uint64_t *items, size_t items_length, uint64_t animal, uint64_t limit,
+                                          uint64_t now);
+
 /* One byte of the 32-bit FNV-1a hash, which decides an animal's buckets: start with h = 2166136261.
    For tests of a cabinet against the published vectors. */
 uint32_t boughladder_fnv_byte(uint32_t h, uint8_t byte);
 
-/* The lent memory in one piece. Through a pointer to const one may read, find and list; for any other call that is a
-   warning, in C++ an error. */
+/* The lent memory in one piece. Read, plain read, find and list take a pointer to const; any other call through one is
+   a warning, in C++ an error. */
 typedef struct BoughladderTable {
     uint32_t *slots;
     size_t slots_length;
@@ -317,12 +330,12 @@ typedef struct BoughladderTable {
 #define BOUGHLADDER_DEMAND_(fact, name) (0 * sizeof(struct { char name[(fact) ? 1 : -1]; }))
 #endif
 
-/* The parts of a table, as the plain calls take them. */
+/* The parts of a table, as the calls over the runs take them. */
 #define BOUGHLADDER_LENT_(t) \
     (t)->slots, (t)->slots_length, (t)->counters, (t)->counters_length, (t)->items, (t)->items_length
 
 /*
- * The calls over a table. Replies and refusals are those of the plain call of the same name.
+ * The calls over a table. Replies and refusals are those of the call over the runs of the same name.
  */
 
 BOUGHLADDER_MUST_USE
@@ -401,11 +414,19 @@ static inline BoughladderListing boughladder_table_list(const BoughladderTable *
     return boughladder_list(BOUGHLADDER_LENT_(table), buffer, buffer_length);
 }
 
+/* Of the table's items alone. */
+BOUGHLADDER_MUST_USE
+static inline BoughladderReading boughladder_table_plain_read(const BoughladderTable *table, uint64_t animal,
+                                                              uint64_t limit, uint64_t now) {
+    return boughladder_plain_read(table->items, table->items_length, animal, limit, now);
+}
+
 /*
  * What to make of the replies.
  */
 
-/* The lane of an animal by the reply to its read or serve: holding for every refusal and for all that is not fresh. */
+/* The lane of an animal by the reply to its read or serve: holding for every refusal and for all that is not fresh.
+   Not by a plain read's reply, which tells of no damage. */
 static inline enum BoughladderLane boughladder_lane(BoughladderReading reading) {
     if (reading.refusal != BOUGHLADDER_OK || reading.kind != BOUGHLADDER_FRESH) return BOUGHLADDER_HOLDING;
     if ((reading.permission & BOUGHLADDER_MAY_MILK) != 0) return BOUGHLADDER_MILKING;

@@ -20,7 +20,7 @@ every true list late until the animal is deleted.
 
 One call at a time: no call may run while another one writes (fresh, set, delete, evict, serve and the cut forms) on the
 same table. Each Table has a lock and each of its calls takes it, so threads may share it. Two Tables over the same
-arrays have two locks: make one.
+arrays have two locks: make one. The function plain_read, for an auditor, takes no lock.
 
 The library is libboughladder.so, which bindings/python/run links: beside this file, in target/python of the repository,
 or where the environment variable BOUGHLADDER_SO says.
@@ -63,7 +63,7 @@ class Refusal(Exception):
 
 
 class Reading(NamedTuple):
-    """What read and serve say. Fresh alone opens nothing: see lane()."""
+    """What read, serve and plain read say. Fresh alone opens nothing: see lane()."""
     kind: str                          # absent, fresh, old or ahead
     permission: Optional[int] = None   # where fresh
     age: Optional[int] = None          # minutes; where fresh or old
@@ -87,7 +87,10 @@ class Record(NamedTuple):
 
 
 def lane(reading):
-    """Of a fresh permission bit 0 means milking, else bit 1 grazing, else holding; every other answer means holding."""
+    """Of a fresh permission bit 0 means milking, else bit 1 grazing, else holding; every other answer means holding.
+
+    Not for an answer of plain read, which tells of no damage.
+    """
     if reading.kind == FRESH and reading.permission & MAY_MILK:
         return MILKING
     if reading.kind == FRESH and reading.permission & MAY_GRAZE:
@@ -124,21 +127,23 @@ class _Listing(ctypes.Structure):
 
 
 _u32, _u64, _size = ctypes.c_uint32, ctypes.c_uint64, ctypes.c_size_t
-_LENT = [ctypes.POINTER(_u32), _size, ctypes.POINTER(_u32), _size, ctypes.POINTER(_u64), _size]
+_ITEMS = [ctypes.POINTER(_u64), _size]
+_LENT = [ctypes.POINTER(_u32), _size, ctypes.POINTER(_u32), _size] + _ITEMS
 
-# Each call: its reply, and its arguments behind the lent memory.
+# Each call: its reply, and its arguments: the lent memory, then the numbers.
 _CALLS = {
-    'fresh': (_u32, []),
-    'read': (_Reading, [_u64, _u64, _u64]),
-    'serve': (_Reading, [_u64, _u64, _u64]),
-    'find': (_Finding, [_u64]),
-    'set': (_Setting, [_u64, _u32, _u64, _u64, _u32]),
-    'set_cut': (_Setting, [_u64, _u32, _u64, _u64, _u32, _u64]),
-    'delete': (_u32, [_u64]),
-    'delete_cut': (_u32, [_u64, _u64]),
-    'evict': (_Evicting, [_size]),
-    'evict_cut': (_Evicting, [_size, _u64]),
-    'list': (_Listing, [ctypes.c_char_p, _size]),
+    'fresh': (_u32, _LENT),
+    'read': (_Reading, _LENT + [_u64, _u64, _u64]),
+    'serve': (_Reading, _LENT + [_u64, _u64, _u64]),
+    'find': (_Finding, _LENT + [_u64]),
+    'set': (_Setting, _LENT + [_u64, _u32, _u64, _u64, _u32]),
+    'set_cut': (_Setting, _LENT + [_u64, _u32, _u64, _u64, _u32, _u64]),
+    'delete': (_u32, _LENT + [_u64]),
+    'delete_cut': (_u32, _LENT + [_u64, _u64]),
+    'evict': (_Evicting, _LENT + [_size]),
+    'evict_cut': (_Evicting, _LENT + [_size, _u64]),
+    'list': (_Listing, _LENT + [ctypes.c_char_p, _size]),
+    'plain_read': (_Reading, _ITEMS + [_u64, _u64, _u64]),
 }
 
 
@@ -156,7 +161,7 @@ def _load():
     calls = {}
     for name, (reply, arguments) in _CALLS.items():
         calls[name] = library['boughladder_' + name]
-        calls[name].restype, calls[name].argtypes = reply, _LENT + arguments
+        calls[name].restype, calls[name].argtypes = reply, arguments
     return calls
 
 
@@ -170,6 +175,49 @@ def _number(value, bits, what):
     return value
 
 
+def _answered(name, *arguments):
+    """The reply to a call of the library, unless it refused."""
+    reply = _library[name](*arguments)
+    refusal = reply if isinstance(reply, int) else reply.refusal
+    if refusal != 0:
+        raise Refusal(refusal)
+    return reply
+
+
+def _asked(animal, limit, now):
+    return _number(animal, 64, 'animal'), _number(limit, 64, 'limit'), _number(now, 64, 'now')
+
+
+def _told(r):
+    if r.kind == 1:
+        return Reading(FRESH, r.permission, r.age)
+    if r.kind == 2:
+        return Reading(OLD, None, r.age)
+    return Reading(AHEAD if r.kind == 3 else ABSENT)
+
+
+def _is_array(array, kind):
+    return isinstance(array, ctypes.Array) and array._type_ is kind
+
+
+def plain_read(items, animal, limit, now):
+    """Read without hashing, for an auditor, who may have the item words alone, as a ctypes array of c_uint64.
+
+    It walks the places in order, takes the first with that number, and judges it as read does, its permission word
+    modulo 2^32. It is slower: it may walk all places. It takes no lock; Table.plain_read does.
+
+    On a table that finished calls have made from fresh on, it answers as read does, for every number, limit and minute.
+    So where the two differ, a call was cut off, something else wrote, or other lengths were lent. It answers there too,
+    even where read is refused with 8 or 4, and that answer opens no gate.
+    Refusals 1 (for the length of the items), 2, 3.
+
+    The bytes of a dump: plain_read((ctypes.c_uint64 * (len(dump) // 8)).from_buffer_copy(dump), 4711, 720, now)
+    """
+    if not _is_array(items, _u64):
+        raise TypeError('plain_read wants a ctypes array of c_uint64')
+    return _told(_answered('plain_read', items, len(items), *_asked(animal, limit, now)))
+
+
 class Table:
     """A table, fresh, of so many buckets (a power of two, 2 to 2048), counters (1 to 1024) and places (1 to 4096)."""
 
@@ -181,7 +229,7 @@ class Table:
     def over(cls, *, slots, counters, items):
         """A table over ctypes arrays of c_uint32, c_uint32 and c_uint64, as they stand. The arguments go by name."""
         for array, kind in ((slots, _u32), (counters, _u32), (items, _u64)):
-            if not isinstance(array, ctypes.Array) or array._type_ is not kind:
+            if not _is_array(array, kind):
                 raise TypeError('a table wants ctypes arrays of c_uint32, c_uint32 and c_uint64')
         table = cls.__new__(cls)
         table._lend(slots, counters, items)
@@ -194,31 +242,27 @@ class Table:
     def _call(self, name, *numbers):
         s, c, i = self.slots, self.counters, self.items
         with self._lock:
-            reply = _library[name](s, len(s), c, len(c), i, len(i), *numbers)
-        refusal = reply if isinstance(reply, int) else reply.refusal
-        if refusal != 0:
-            raise Refusal(refusal)
-        return reply
+            return _answered(name, s, len(s), c, len(c), i, len(i), *numbers)
 
     def fresh(self):
         """Makes a table of the memory: 0 in every word. The only call that helps a busy counter."""
         self._call('fresh')
 
-    def _ask(self, name, animal, limit, now):
-        r = self._call(name, _number(animal, 64, 'animal'), _number(limit, 64, 'limit'), _number(now, 64, 'now'))
-        if r.kind == 1:
-            return Reading(FRESH, r.permission, r.age)
-        if r.kind == 2:
-            return Reading(OLD, None, r.age)
-        return Reading(AHEAD if r.kind == 3 else ABSENT)
-
     def read(self, animal, limit, now):
         """Whether the permission is fresh: held, not ahead of now and at most limit minutes old; or standing."""
-        return self._ask('read', animal, limit, now)
+        return _told(self._call('read', *_asked(animal, limit, now)))
 
     def serve(self, animal, limit, now):
         """Read, for a gate that then opens: a fresh answer also marks that the animal was here lately."""
-        return self._ask('serve', animal, limit, now)
+        return _told(self._call('serve', *_asked(animal, limit, now)))
+
+    def plain_read(self, animal, limit, now):
+        """plain_read of the items: as read, where finished calls have made the table from fresh on.
+
+        It looks at no slots and counters, and what it answers on a damaged table opens no gate.
+        """
+        with self._lock:
+            return plain_read(self.items, animal, limit, now)
 
     def find(self, animal):
         """The place at which the animal is held, whatever its age, or None."""

@@ -4,7 +4,7 @@ import threading
 import unittest
 
 from boughladder import (ABSENT, AHEAD, FRESH, GRAZING, HOLDING, LARGEST_LIMIT, MILKING, OLD, REFUSALS, STANDING,
-                         Evicted, Reading, Record, Refusal, Stored, Table, lane, records)
+                         Evicted, Reading, Record, Refusal, Stored, Table, lane, plain_read, records)
 
 
 def lent(s, c, i):
@@ -264,6 +264,130 @@ class Story(unittest.TestCase):
         table.slots[1] = 65540
         self.assertEqual(table.read(1, 720, 110), fresh(1, 10))
 
+    def said(self, call, *numbers):
+        """The answer, or the number of the refusal."""
+        try:
+            return call(*numbers)
+        except Refusal as refusal:
+            return refusal.number
+
+    def plainly(self, table, *numbers):
+        """Plain read over the table and over its items alone, which say the same."""
+        said = self.said(plain_read, table.items, *numbers)
+        self.assertEqual(self.said(table.plain_read, *numbers), said)
+        return said
+
+    def agree(self, table, animals):
+        """Plain read answers as read: for these animals, 0 and absent ones, and for bad limits and minutes too."""
+        for animal in (*animals, 0, 4799, 2 ** 64 - 1):
+            for limit in (0, 12, 720, LARGEST_LIMIT, LARGEST_LIMIT + 1, 2 ** 64 - 1):
+                for now in (0, 99, 100, 820, 821, 900, 902, 903, 10180, 10181, 2 ** 64 - 2, 2 ** 64 - 1):
+                    self.assertEqual(self.plainly(table, animal, limit, now), self.said(table.read, animal, limit, now),
+                                     (animal, limit, now))
+
+    def test_plain_read_over_a_day(self):
+        table = made(32, 4, 20)
+        self.agree(table, ())
+        for call, *numbers in ((table.set, 4711, 1, 100, 100), (table.set, 4712, 0, 100, 100),
+                               (table.set, 4713, 2 ** 32 - 1, 100, 100), (table.serve, 4711, 720, 820),
+                               (table.set_standing, 900, 2, 840, 840), (table.set, 4711, 3, 890, 900),
+                               (table.set, 4711, 1, 100, 902),                                # late
+                               (table.delete, 4711), (table.delete, 4711),                    # place 0 is vacant now
+                               (table.set, 4714, 1, 890, 902), (table.set, 4715, 1, 902, 902),
+                               (table.set, 4716, 1, 902, 902),                                # no place
+                               (table.evict, 1), (table.set, 4716, 1, 902, 902)):
+            self.said(call, *numbers)
+            self.agree(table, (4711, 4712, 4713, 900, 4714, 4715, 4716))
+        self.assertEqual([record.animal for record in records(table.list())], [4714, 4716, 4713, 900, 4715])
+
+        # And where an entry is moved to make room.
+        herd = 358, 687, 1012, 1334, 248, 734, 913, 1710, 5
+        table = made(16, 4, 36)
+        for animal in herd:
+            table.set(animal, 1, 100, 100)
+            self.agree(table, herd)
+
+    def test_plain_read_judges(self):
+        # She is in the last place, behind a vacant one.
+        table = lent(8, 1, 12)
+        table.items[:] = 8, 1, 50, 1, 0, 0, 0, 0, 7, 5, 100, 0
+        self.assertEqual(self.plainly(table, 7, 720, 820), fresh(5, 720))
+        self.assertEqual(self.plainly(table, 7, 720, 821), old(721))
+        self.assertEqual(self.plainly(table, 7, 720, 99), Reading(AHEAD))
+        self.assertEqual(self.plainly(table, 7, LARGEST_LIMIT, 10180), fresh(5, 10080))
+        self.assertEqual(self.plainly(table, 7, 0, 2 ** 64 - 2), old(2 ** 64 - 102))
+        self.assertEqual(self.plainly(table, 8, 720, 770), fresh(1, 720))
+        self.assertEqual(self.plainly(table, 9, 720, 820), Reading(ABSENT))
+        self.assertEqual(self.plainly(table, 7 + 2 ** 32, 720, 820), Reading(ABSENT))
+        # It marks nobody.
+        self.assertEqual(table.items[8:], [7, 5, 100, 0])
+
+        # A permission word above 32 bits is told modulo 2^32.
+        for word, permission in ((2 ** 32 + 5, 5), (2 ** 32, 0), (2 ** 64 - 1, 2 ** 32 - 1)):
+            table.items[9] = word
+            self.assertEqual(self.plainly(table, 7, 720, 820), fresh(permission, 720))
+        table.items[10] = STANDING
+        self.assertEqual(self.plainly(table, 7, 0, 0), fresh(2 ** 32 - 1, 0))
+        self.assertEqual(self.plainly(table, 7, 720, 2 ** 64 - 2), fresh(2 ** 32 - 1, 0))
+
+        # Twins: the first place decides, whatever the other one is.
+        table.items[:] = 8, 1, 50, 1, 7, 6, 100, 1, 7, 5, 110, 1
+        self.assertEqual(self.plainly(table, 7, 720, 820), fresh(6, 720))
+        self.assertEqual(self.plainly(table, 7, 720, 821), old(721))
+        table.items[6] = 900
+        self.assertEqual(self.plainly(table, 7, 720, 820), Reading(AHEAD))
+
+    def test_plain_read_refuses(self):
+        for length in (0, 3, 4, 5, 6, 7, 8, 16380, 16383, 16384, 16385, 16388, 20000):
+            with self.subTest(length=length):
+                items, last = (ctypes.c_uint64 * length)(), length // 4 * 4
+                if length >= 4:
+                    items[last - 4:last] = 7, 5, 100, 1  # she is in the last place
+                good = length in (4, 8, 16380, 16384)
+                self.assertEqual(self.said(plain_read, items, 7, 720, 820), fresh(5, 720) if good else 1)
+                # Its turn is before those of the animal and the times, in this order.
+                for number, numbers in ((2, (0, 720, 820)), (2, (0, LARGEST_LIMIT + 1, 820)),
+                                        (2, (0, 720, 2 ** 64 - 1)), (3, (7, LARGEST_LIMIT + 1, 820)),
+                                        (3, (9, 720, 2 ** 64 - 1))):
+                    self.refused(number if good else 1, plain_read, items, *numbers)
+        # One place is lent, and she is behind it.
+        items = (ctypes.c_uint64 * 8)(0, 0, 0, 0, 7, 5, 100, 1)
+        self.assertEqual(plain_read((ctypes.c_uint64 * 4).from_buffer(items), 7, 720, 820), Reading(ABSENT))
+        dump = bytes(items)
+        self.assertEqual(plain_read((ctypes.c_uint64 * (len(dump) // 8)).from_buffer_copy(dump), 7, 720, 820),
+                         fresh(5, 720))
+
+        # Slots and counters of wrong lengths are no refusal.
+        for s, c in ((0, 0), (12, 1), (8, 0), (16384, 1), (8, 1025)):
+            table = lent(s, c, 4)
+            table.items[:] = 7, 5, 100, 1
+            self.refused(1, table.read, 7, 720, 820)
+            self.assertEqual(self.plainly(table, 7, 720, 820), fresh(5, 720))
+
+        # Numbers out of range, and what is no array of 64-bit words.
+        for numbers in ((2 ** 64, 720, 820), (7, -1, 820), (7, 720, 2 ** 64), (7, 720, 1.5)):
+            self.assertRaises(ValueError, plain_read, items, *numbers)
+            self.assertRaises(ValueError, made(8, 1, 4).plain_read, *numbers)
+        for wrong in (made(8, 1, 4), made(8, 1, 4).slots, (ctypes.c_int64 * 4)(), [7, 5, 100, 1], dump, None):
+            self.assertRaises(TypeError, plain_read, wrong, 7, 720, 820)
+
+    def test_plain_read_walks_on(self):
+        # Busy: each store of a new entry is seen, and a permission 5 with no stamp yet looks fresh.
+        half = [Reading(ABSENT), fresh(0, 100), fresh(5, 100)] + 3 * [fresh(5, 10)]
+        for k in range(1, 7):
+            table = made(16, 1, 20)
+            table.set_cut(7, 5, 90, 100, k)
+            self.refused(8, table.read, 7, 720, 100)
+            self.assertEqual(self.plainly(table, 7, 720, 100), half[k - 1])
+
+        table = made(16, 4, 20)
+        table.set(1, 1, 100, 100)
+        slot = next(n for n, word in enumerate(table.slots) if word != 0)
+        for word, said in ((0xdeadbeef, 4), (0, Reading(ABSENT))):
+            table.slots[slot] = word
+            self.assertEqual(self.said(table.read, 1, 720, 110), said)
+            self.assertEqual(self.plainly(table, 1, 720, 110), fresh(1, 10))
+
     def test_lanes(self):
         self.assertEqual([lane(fresh(permission, 0)) for permission in range(5)],
                          [HOLDING, MILKING, GRAZING, MILKING, HOLDING])
@@ -287,7 +411,8 @@ class Story(unittest.TestCase):
 
     def test_one_call_at_a_time(self):
         table = made(8, 1, 4)
-        for call, numbers in ((table.set, (1, 1, 100, 100)), (table.read, (1, 720, 100)), (table.list, ())):
+        for call, numbers in ((table.set, (1, 1, 100, 100)), (table.read, (1, 720, 100)), (table.list, ()),
+                              (table.plain_read, (1, 720, 100))):
             task = threading.Thread(target=call, args=numbers)
             with table._lock:
                 task.start()

@@ -1,8 +1,8 @@
 /*
  * Checks include/boughladder.h and libboughladder.a against each other: the layout of each struct, each call with known
- * answers (the order's examples), late lists and the order of set's refusals, the sizes and limits, the calls over a
- * table beside the plain ones, and garbage memory of any length in blocks of their own, so that valgrind sees a read or
- * a write outside.
+ * answers (the order's examples), late lists and the order of set's refusals, plain read and where it answers as read,
+ * the sizes and limits, the calls over a table beside those over the runs, and garbage memory of any length in blocks
+ * of their own, so that valgrind sees a read or a write outside.
  * `check ROUNDS` prints one line, `N checks passed`, or the checks that failed.
  */
 #include <stdio.h>
@@ -63,6 +63,10 @@ static int reads(BoughladderReading r, unsigned refusal, unsigned kind, uint32_t
     return r.refusal == refusal && r.kind == kind && r.permission == permission && r.age == age;
 }
 
+static int alike(BoughladderReading a, BoughladderReading b) {
+    return reads(a, b.refusal, b.kind, b.permission, b.age);
+}
+
 static int finds(BoughladderFinding r, uint32_t refusal, uint32_t kind, size_t place) {
     return r.refusal == refusal && r.kind == kind && r.place == place;
 }
@@ -77,6 +81,52 @@ static int evicts(BoughladderEvicting r, uint32_t refusal, uint64_t victim, size
 
 static int lists(BoughladderListing r, uint32_t refusal, size_t count) {
     return r.refusal == refusal && r.count == count;
+}
+
+/* Plain read in all its forms, which say the same: over the items, over the table, and over the items without slots and
+   counters. */
+static BoughladderReading plainly(const Table *t, uint64_t animal, uint64_t limit, uint64_t now) {
+    BoughladderTable table = {t->slots, t->s, t->counters, t->c, t->items, t->i};
+    BoughladderTable alone = {NULL, 0, NULL, 0, t->items, t->i};
+    BoughladderReading r = boughladder_plain_read(t->items, t->i, animal, limit, now);
+    CHECK(alike(boughladder_table_plain_read(&table, animal, limit, now), r));
+    CHECK(alike(boughladder_table_plain_read(&alone, animal, limit, now), r));
+    return r;
+}
+
+/* What it must say, on any memory. */
+static BoughladderReading walked(const Table *t, uint64_t animal, uint64_t limit, uint64_t now) {
+    BoughladderReading r = {0, BOUGHLADDER_ABSENT, 0, 0};
+    const uint64_t *words = t->items, *end = t->items + t->i;
+    if (t->i % 4 != 0 || t->i < 4 || t->i > 16384) r.refusal = BOUGHLADDER_BAD_SHAPE;
+    else if (animal == 0) r.refusal = BOUGHLADDER_NO_ANIMAL;
+    else if (limit > 10080 || now == UINT64_MAX) r.refusal = BOUGHLADDER_BAD_TIME;
+    if (r.refusal != 0) return r;
+    while (words < end && words[0] != animal) words += 4;
+    if (words == end) return r;
+    if (words[2] != UINT64_MAX && words[2] > now) {
+        r.kind = BOUGHLADDER_AHEAD;
+        return r;
+    }
+    r.age = words[2] == UINT64_MAX ? 0 : now - words[2];
+    r.kind = r.age <= limit ? BOUGHLADDER_FRESH : BOUGHLADDER_OLD;
+    if (r.kind == BOUGHLADDER_FRESH) r.permission = (uint32_t)(words[1] % 4294967296u);
+    return r;
+}
+
+/* On a table that finished calls have made, plain read answers as read: for every place's number, which is 0 where the
+   place is vacant, and for the next number; at the edges of the limit and of the minutes. */
+static void agree(const Table *t) {
+    static const uint64_t limits[6] = {0, 1, 720, 10080, 10081, UINT64_MAX};
+    for (size_t place = 0; place < t->i / 4; place++)
+        for (int l = 0; l < 6; l++) {
+            uint64_t animal = t->items[4 * place], limit = limits[l], stamp = t->items[4 * place + 2];
+            uint64_t minutes[7] = {0, stamp - 1, stamp, stamp + limit, stamp + limit + 1, UINT64_MAX - 1, UINT64_MAX};
+            for (int m = 0; m < 7; m++)
+                for (uint64_t other = 0; other < 2; other++)
+                    CHECK(alike(plainly(t, animal + other, limit, minutes[m]),
+                                boughladder_read(LENT(*t), animal + other, limit, minutes[m])));
+        }
 }
 
 static void layout(void) {
@@ -166,6 +216,7 @@ static void nothing_lent(void) {
     for (int k = 0; k < 2; k++) {
         CHECK(boughladder_table_fresh(lent[k]) == BOUGHLADDER_BAD_SHAPE);
         CHECK(reads(boughladder_table_read(lent[k], 1, 0, 0), BOUGHLADDER_BAD_SHAPE, 0, 0, 0));
+        CHECK(reads(boughladder_table_plain_read(lent[k], 1, 0, 0), BOUGHLADDER_BAD_SHAPE, 0, 0, 0));
         CHECK(reads(boughladder_table_serve(lent[k], 1, 0, 0), BOUGHLADDER_BAD_SHAPE, 0, 0, 0));
         CHECK(finds(boughladder_table_find(lent[k], 1), BOUGHLADDER_BAD_SHAPE, 0, 0));
         CHECK(sets(boughladder_table_set(lent[k], 1, 1, 1, 1), BOUGHLADDER_BAD_SHAPE, 0, 0));
@@ -238,7 +289,9 @@ static void records(void) {
 static void ages(void) {
     Table t = lend(16, 4, 36);
     CHECK(boughladder_fresh(LENT(t)) == 0);
+    agree(&t);
     CHECK(sets(boughladder_set(LENT(t), 7, 5, 100, 100, 0), 0, 1, 0));
+    agree(&t);
     CHECK(reads(boughladder_read(LENT(t), 7, 720, 820), 0, BOUGHLADDER_FRESH, 5, 720));
     CHECK(reads(boughladder_read(LENT(t), 7, 720, 821), 0, BOUGHLADDER_OLD, 0, 721));
     CHECK(reads(boughladder_read(LENT(t), 7, 720, 99), 0, BOUGHLADDER_AHEAD, 0, 0));
@@ -255,6 +308,7 @@ static void ages(void) {
     CHECK(sets(boughladder_set(LENT(t), 7, 6, 200, 200, 0x80000000u), 0, 0, 0));
     CHECK(reads(boughladder_read(LENT(t), 7, 0, UINT64_MAX - 1), 0, BOUGHLADDER_FRESH, 6, 0));
     CHECK(t.items[2] == UINT64_MAX);
+    agree(&t);
 
     /* Serve marks where the answer is fresh, and nowhere else. */
     CHECK(sets(boughladder_set(LENT(t), 7, 5, 100, 100, 0), 0, 0, 0));
@@ -388,9 +442,11 @@ static void moves(void) {
     CHECK(boughladder_fresh(LENT(t)) == 0);
     for (uint32_t k = 0; k < 8; k++) CHECK(sets(boughladder_set(LENT(t), herd[k], k, 100, 100, 0), 0, 1, 0));
     CHECK(t.counters[0] == 16);
+    agree(&t);
     CHECK(sets(boughladder_set(LENT(t), 5, 9, 100, 100, 0), 0, 5, 1));
     for (size_t k = 0; k < 16; k++) CHECK(t.slots[k] == words[k]);
     CHECK(t.counters[0] == 20);
+    agree(&t);
     for (uint32_t k = 0; k < 8; k++)
         CHECK(reads(boughladder_read(LENT(t), herd[k], 720, 100), 0, BOUGHLADDER_FRESH, k, 0));
     CHECK(reads(boughladder_read(LENT(t), 5, 720, 100), 0, BOUGHLADDER_FRESH, 9, 0));
@@ -411,6 +467,7 @@ static void moves(void) {
     first = v.slots[0], second = v.slots[13];
     CHECK(sets(boughladder_set(LENT(v), 17, 9, 100, 100, 0), 0, 12, 2));
     CHECK(v.slots[8] == second && v.slots[13] == first);
+    agree(&v);
     give_back(&v);
 }
 
@@ -470,6 +527,10 @@ static void cuts(void) {
         CHECK(k == 0   ? reads(r, 0, BOUGHLADDER_ABSENT, 0, 0)
               : k < 7 ? reads(r, BOUGHLADDER_BUSY, 0, 0, 0)
                       : reads(r, 0, BOUGHLADDER_FRESH, 5, 0));
+        /* Plain read tells what is half written: new permission, old stamp. */
+        r = plainly(&t, 7, 720, 100);
+        CHECK(k < 2 ? reads(r, 0, BOUGHLADDER_ABSENT, 0, 0)
+                    : reads(r, 0, BOUGHLADDER_FRESH, k < 3 ? 0 : 5, k < 4 ? 100 : 0));
         if (0 < k && k < 7) {
             CHECK(boughladder_delete(LENT(t), 7) == BOUGHLADDER_BUSY);
             CHECK(sets(boughladder_set(LENT(t), 7, 5, 100, 100, 0), BOUGHLADDER_BUSY, 0, 0));
@@ -488,10 +549,132 @@ static void cuts(void) {
         CHECK(boughladder_delete_cut(LENT(t), 7, k) == 0);
         CHECK(t.counters[0] == (k == 0 ? 2u : k < 7 ? 3u : 4u));
         CHECK(t.items[0] == (k < 3 ? 7u : 0u) && t.items[3] == (k < 6 ? 1u : 0u));
+        CHECK(plainly(&t, 7, 720, 100).kind == (k < 3 ? BOUGHLADDER_FRESH : BOUGHLADDER_ABSENT));
         CHECK(evicts(boughladder_evict(LENT(t), 8), k == 0 ? 0 : k < 3 ? BOUGHLADDER_BUSY : BOUGHLADDER_NOBODY,
                      k == 0 ? 7 : 0, k == 0 ? 11 : 0, k == 0 ? 1 : 8));
         give_back(&t);
     }
+}
+
+/* Puts an animal with permission 5 and stamp 100 at a place. */
+static void put(Table *t, size_t place, uint64_t animal) {
+    t->items[4 * place] = animal, t->items[4 * place + 1] = 5, t->items[4 * place + 2] = 100;
+}
+
+/* Plain read: how an animal is judged, and what is refused. */
+static void plain(void) {
+    Table t = lend(16, 4, 36);
+    CHECK(boughladder_fresh(LENT(t)) == 0);
+    CHECK(boughladder_set(LENT(t), 7, 5, 100, 100, 0).refusal == 0);
+    CHECK(reads(plainly(&t, 7, 720, 820), 0, BOUGHLADDER_FRESH, 5, 720));
+    CHECK(reads(plainly(&t, 7, 720, 821), 0, BOUGHLADDER_OLD, 0, 721));
+    CHECK(reads(plainly(&t, 7, 720, 99), 0, BOUGHLADDER_AHEAD, 0, 0));
+    CHECK(reads(plainly(&t, 7, 0, 100), 0, BOUGHLADDER_FRESH, 5, 0));
+    CHECK(reads(plainly(&t, 7, 10080, 10180), 0, BOUGHLADDER_FRESH, 5, 10080));
+    CHECK(reads(plainly(&t, 7, 10080, 10181), 0, BOUGHLADDER_OLD, 0, 10081));
+    CHECK(reads(plainly(&t, 7, 0, UINT64_MAX - 1), 0, BOUGHLADDER_OLD, 0, UINT64_MAX - 101));
+    CHECK(reads(plainly(&t, 8, 720, 820), 0, BOUGHLADDER_ABSENT, 0, 0));
+    CHECK(reads(plainly(&t, 4294967303u, 720, 820), 0, BOUGHLADDER_ABSENT, 0, 0));
+    CHECK(boughladder_set(LENT(t), 7, 6, 100, 100, 1).refusal == 0);
+    CHECK(reads(plainly(&t, 7, 0, 0), 0, BOUGHLADDER_FRESH, 6, 0));
+    CHECK(reads(plainly(&t, 7, 720, UINT64_MAX - 1), 0, BOUGHLADDER_FRESH, 6, 0));
+
+    /* 1, 2, 3 in this order: all reasons at once, and one after the other is taken away. */
+    t.i = 35;
+    CHECK(reads(plainly(&t, 0, 10081, UINT64_MAX), BOUGHLADDER_BAD_SHAPE, 0, 0, 0));
+    CHECK(reads(plainly(&t, 0, 720, 820), BOUGHLADDER_BAD_SHAPE, 0, 0, 0));
+    CHECK(reads(plainly(&t, 7, 10081, 820), BOUGHLADDER_BAD_SHAPE, 0, 0, 0));
+    t.i = 36;
+    CHECK(reads(plainly(&t, 0, 10081, UINT64_MAX), BOUGHLADDER_NO_ANIMAL, 0, 0, 0));
+    CHECK(reads(plainly(&t, 0, 720, 820), BOUGHLADDER_NO_ANIMAL, 0, 0, 0));
+    for (uint64_t animal = 7; animal <= 8; animal++) {
+        CHECK(reads(plainly(&t, animal, 10081, 820), BOUGHLADDER_BAD_TIME, 0, 0, 0));
+        CHECK(reads(plainly(&t, animal, 720, UINT64_MAX), BOUGHLADDER_BAD_TIME, 0, 0, 0));
+    }
+
+    /* Two lengths that are too large for the memory, so no word may be read. */
+    CHECK(reads(boughladder_plain_read(t.items, SIZE_MAX - 3, 7, 720, 820), BOUGHLADDER_BAD_SHAPE, 0, 0, 0));
+    CHECK(reads(boughladder_plain_read(t.items, (size_t)UINT32_MAX + 5, 7, 720, 820), BOUGHLADDER_BAD_SHAPE, 0, 0, 0));
+    give_back(&t);
+
+    /* Every length to 40 and those about 16384. The last place is looked at, and the one behind it is not. */
+    for (size_t l = 0; l <= 16392; l += l == 40 ? 16336 : 1) {
+        int good = l % 4 == 0 && l >= 4 && l <= 16384;
+        t = lend(0, 0, l);
+        if (l >= 4) put(&t, l / 4 - 1, 7);
+        CHECK(reads(plainly(&t, 7, 720, 820), good ? 0 : BOUGHLADDER_BAD_SHAPE, good ? BOUGHLADDER_FRESH : 0,
+                    good ? 5 : 0, good ? 720 : 0));
+        if (good) {
+            t.i -= 4;
+            CHECK(reads(plainly(&t, 7, 720, 820), t.i == 0 ? BOUGHLADDER_BAD_SHAPE : 0, 0, 0, 0));
+        }
+        give_back(&t);
+    }
+}
+
+/* Plain read on memory that no call has made: its own walk decides. */
+static void plain_walks(void) {
+    Table t = lend(16, 4, 36), before = lend(16, 4, 36);
+    size_t place = 0;
+
+    /* Each place is walked to, over vacant places and over taken ones. */
+    for (place = 0; place < 9; place++) {
+        memset(t.items, 0, 8 * t.i);
+        put(&t, place, 7);
+        CHECK(reads(plainly(&t, 7, 720, 820), 0, BOUGHLADDER_FRESH, 5, 720));
+        for (size_t other = 0; other < 9; other++)
+            if (other != place) put(&t, other, 100 + other);
+        CHECK(reads(plainly(&t, 7, 720, 820), 0, BOUGHLADDER_FRESH, 5, 720));
+        CHECK(reads(plainly(&t, 9, 720, 820), 0, BOUGHLADDER_ABSENT, 0, 0));
+    }
+
+    /* Twins: the first place, fresh, old or ahead, and whatever the other one is. */
+    put(&t, 2, 7), put(&t, 6, 7);
+    t.items[4 * 6 + 1] = 6, t.items[4 * 6 + 2] = 110;
+    CHECK(reads(plainly(&t, 7, 720, 820), 0, BOUGHLADDER_FRESH, 5, 720));
+    CHECK(reads(plainly(&t, 7, 720, 821), 0, BOUGHLADDER_OLD, 0, 721));
+    t.items[4 * 2 + 2] = 900;
+    CHECK(reads(plainly(&t, 7, 720, 820), 0, BOUGHLADDER_AHEAD, 0, 0));
+    t.items[4 * 2 + 2] = UINT64_MAX;
+    CHECK(reads(plainly(&t, 7, 720, 820), 0, BOUGHLADDER_FRESH, 5, 0));
+    t.items[4 * 2] = 0;
+    CHECK(reads(plainly(&t, 7, 720, 820), 0, BOUGHLADDER_FRESH, 6, 710));
+
+    /* A permission word modulo 2^32; a permission 0 is one too; any recent word. */
+    put(&t, 2, 7);
+    t.items[4 * 2 + 1] = 4294967301u;
+    CHECK(reads(plainly(&t, 7, 720, 820), 0, BOUGHLADDER_FRESH, 5, 720));
+    t.items[4 * 2 + 1] = UINT64_MAX;
+    CHECK(reads(plainly(&t, 7, 720, 820), 0, BOUGHLADDER_FRESH, UINT32_MAX, 720));
+    CHECK(reads(plainly(&t, 7, 720, 821), 0, BOUGHLADDER_OLD, 0, 721));
+    t.items[4 * 2 + 1] = 0;
+    for (uint64_t recent = 0; recent < 3; recent++) {
+        t.items[4 * 2 + 3] = recent - 1;
+        CHECK(reads(plainly(&t, 7, 720, 820), 0, BOUGHLADDER_FRESH, 0, 720));
+    }
+
+    /* Where read refuses or misses her, the walk goes on. */
+    CHECK(boughladder_fresh(LENT(t)) == 0);
+    for (uint64_t animal = 6; animal <= 8; animal++)
+        CHECK(boughladder_set(LENT(t), animal, 5, 100, 100, 0).refusal == 0);
+    copy(&before, &t);
+    for (size_t k = 0; k < 4; k++) t.counters[k] = 1;
+    CHECK(reads(boughladder_read(LENT(t), 7, 720, 820), BOUGHLADDER_BUSY, 0, 0, 0));
+    CHECK(reads(plainly(&t, 7, 720, 820), 0, BOUGHLADDER_FRESH, 5, 720));
+    copy(&t, &before);
+    memset(t.slots, 0xa5, 4 * t.s);
+    CHECK(reads(boughladder_read(LENT(t), 7, 720, 820), BOUGHLADDER_DAMAGED, 0, 0, 0));
+    CHECK(reads(plainly(&t, 7, 720, 820), 0, BOUGHLADDER_FRESH, 5, 720));
+    memset(t.slots, 0, 4 * t.s);
+    CHECK(reads(boughladder_read(LENT(t), 7, 720, 820), 0, BOUGHLADDER_ABSENT, 0, 0));
+    CHECK(reads(plainly(&t, 7, 720, 820), 0, BOUGHLADDER_FRESH, 5, 720));
+
+    /* Slots and counters of wrong lengths are no refusal. */
+    t.s = 12, t.c = 0;
+    CHECK(reads(boughladder_read(LENT(t), 7, 720, 820), BOUGHLADDER_BAD_SHAPE, 0, 0, 0));
+    CHECK(reads(plainly(&t, 7, 720, 820), 0, BOUGHLADDER_FRESH, 5, 720));
+    CHECK(memcmp(t.items, before.items, 8 * t.i) == 0);
+    give_back(&t), give_back(&before);
 }
 
 /* xorshift: the same garbage in every run. */
@@ -511,17 +694,19 @@ static uint64_t edge(void) {
     }
 }
 
-/* Garbage of some kind: words of any value, words that look right, few words, or a table that calls have made. */
-static void spoil(Table *t) {
+/* Garbage of some kind: words of any value, words that look right, few words, or a table that calls have made. Says
+   whether it is such a table, in which only recent words were changed. */
+static int spoil(Table *t) {
     unsigned kind = any() % 6;
     uint64_t places = t->i / 4 == 0 ? 1 : t->i / 4;
     if (kind > 3) {
-        uint64_t n = boughladder_fresh(LENT(*t)) == 0 ? any() % 60 : 0;
+        int made = boughladder_fresh(LENT(*t)) == 0;
+        uint64_t n = made ? any() % 60 : 0;
         for (; n > 0; n--)
             CHECK(boughladder_set(LENT(*t), any() % 40, (uint32_t)n, any() % 40, 40, n % 9 == 0).refusal != 1);
         for (size_t k = 3; k < t->i; k += 4) t->items[k] = any() % 2;
         if (kind == 5 && t->s > 0) t->slots[any() % t->s] ^= (uint32_t)1 << any() % 32;
-        return;
+        return made && kind == 4;
     }
     for (size_t k = 0; k < t->s; k++)
         t->slots[k] = kind == 0 ? (uint32_t)any()
@@ -529,10 +714,11 @@ static void spoil(Table *t) {
     for (size_t k = 0; k < t->c; k++)
         t->counters[k] = kind == 0 ? (uint32_t)any() : any() % 9 == 0 ? 7 : UINT32_MAX - 1;
     for (size_t k = 0; k < t->i; k++) t->items[k] = kind == 3 && any() % 2 ? 0 : edge();
+    return 0;
 }
 
-/* How many sets on garbage were late. */
-static unsigned long late;
+/* How many sets on garbage were late, and how often plain read walked on where read refuses. */
+static unsigned long late, walked_on;
 
 /* Every call on garbage: a refusal changes nothing, and the largest cut is the whole call. */
 static void garbage(size_t s, size_t c, size_t i) {
@@ -542,16 +728,20 @@ static void garbage(size_t s, size_t c, size_t i) {
     uint64_t animal = edge(), limit = edge(), now = edge(), k = any() % 12;
     uint64_t issued = any() % 4 == 0 ? edge() : any() % (now % 40 + 1);
     uint32_t permission = (uint32_t)any(), standing = (uint32_t)(any() % 2), refusal, cut;
-    BoughladderReading r, served;
+    BoughladderReading r, served, walk;
+    int made;
     BoughladderSetting set, set_cut;
     BoughladderEvicting out, out_cut;
     BoughladderListing list;
     memset(buffer, 0xee, bytes);
-    spoil(&t);
+    made = spoil(&t);
     copy(&before, &t);
 
     r = boughladder_read(LENT(t), animal, limit, now);
     CHECK(same(&t, &before) && r.refusal <= 10 && r.kind <= 3);
+    walk = plainly(&t, animal, limit, now);
+    CHECK(same(&t, &before) && alike(walk, walked(&t, animal, limit, now)) && (!made || alike(walk, r)));
+    walked_on += walk.kind != BOUGHLADDER_ABSENT && r.refusal != 0;
     served = boughladder_serve(LENT(t), animal, limit, now);
     CHECK(reads(served, r.refusal, r.kind, r.permission, r.age));
     CHECK(same(&t, &before) || r.kind == BOUGHLADDER_FRESH);
@@ -597,14 +787,15 @@ static void garbage(size_t s, size_t c, size_t i) {
     free(buffer), give_back(&t), give_back(&before), give_back(&whole);
 }
 
-/* A run of calls over a table, and the same plain calls on a copy: the same replies and the same words. */
-static void twins(void) {
+/* A run of calls over a table, and the same calls over the runs of a copy: the same replies and the same words. Without
+   cuts plain read agrees with read after each of them. */
+static void twins(int rounds, int cuts_too) {
     Table a = lend(32, 4, 40), b = lend(32, 4, 40);
     BoughladderTable t = {a.slots, a.s, a.counters, a.c, a.items, a.i};
     uint8_t one[BOUGHLADDER_LIST_BYTES(10)], other[BOUGHLADDER_LIST_BYTES(10)];
     size_t hand = 0;
     CHECK(boughladder_table_fresh(&t) == 0 && boughladder_fresh(LENT(b)) == 0);
-    for (int round = 0; round < 3000; round++) {
+    for (int round = 0; round < rounds; round++) {
         uint64_t animal = any() % 14, now = any() % 900, issued = any() % 900, k = any() % 9;
         uint32_t permission = (uint32_t)any(), refusal;
         unsigned what = any() % 40;
@@ -614,7 +805,7 @@ static void twins(void) {
         BoughladderEvicting e;
         BoughladderListing l;
         memset(one, 0xee, sizeof one), memset(other, 0xee, sizeof other);
-        switch (what < 12 ? what : what % 4 * 2) {
+        switch (!cuts_too ? what % 8 : what < 12 ? what : what % 4 * 2) {
             case 0:
                 s = boughladder_set(LENT(b), animal, permission, issued, now, 0);
                 s_table = boughladder_table_set(&t, animal, permission, issued, now);
@@ -636,6 +827,8 @@ static void twins(void) {
             case 4:
                 r = boughladder_read(LENT(b), animal, 720, now);
                 CHECK(reads(boughladder_table_read(&t, animal, 720, now), r.refusal, r.kind, r.permission, r.age));
+                r = boughladder_plain_read(b.items, b.i, animal, 720, now);
+                CHECK(alike(boughladder_table_plain_read(&t, animal, 720, now), r));
                 break;
             case 5:
                 refusal = boughladder_delete(LENT(b), animal);
@@ -670,6 +863,7 @@ static void twins(void) {
                 hand = e.hand;
         }
         CHECK(same(&a, &b) && memcmp(one, other, sizeof one) == 0);
+        if (!cuts_too) agree(&a);
         /* A cut may leave a counter odd, and then all is busy: begin again now and then. */
         if (any() % 50 == 0) CHECK(boughladder_table_fresh(&t) == boughladder_fresh(LENT(b)) && same(&a, &b));
     }
@@ -679,7 +873,8 @@ static void twins(void) {
 int main(int n, char **words) {
     int rounds = n > 1 ? atoi(words[1]) : 400;
     layout(), hashes(), shapes(), sizes(), nothing_lent(), lanes(), texts(), records();
-    ages(), issues(), turns(), moves(), clocks(), the_list(), cuts(), twins();
+    ages(), issues(), turns(), moves(), clocks(), the_list(), cuts(), plain(), plain_walks();
+    twins(3000, 1), twins(300, 0);
     /* Each length from 0 on, of one run beside two good ones. */
     for (size_t l = 0; l <= 2100; l++) {
         garbage(l, 1 + any() % 8, 4 * (1 + any() % 8));
@@ -691,7 +886,7 @@ int main(int n, char **words) {
         garbage((size_t)8 << any() % 11, 1 + any() % 1024, 4 * (1 + any() % 1024));
         for (int small = 0; small < 8; small++) garbage((size_t)8 << any() % 4, 1 + any() % 4, 4 * (1 + any() % 24));
     }
-    CHECK(late > 0);
+    CHECK(late > 0 && walked_on > 0);
     if (failed != 0) {
         printf("%lu checks failed\n", failed);
         return 1;

@@ -1,4 +1,5 @@
-/* A gate: it makes a table, loads lists, a late one too, serves a few cows, and says why one is held. Run by run. */
+/* A gate: it makes a table, loads lists, a late one too, serves a few cows, and says why one is held. At the end the
+   auditor's plain read goes over the list. Run by run. */
 #include <inttypes.h>
 #include <stdio.h>
 #include <stdlib.h>
@@ -73,6 +74,13 @@ static void serve(uint64_t animal, uint64_t limit, uint64_t now, enum Boughladde
         printf("absent, no permission came for her\n");
 }
 
+/* For the auditor: whether plain read, which knows no hashing, answers as read. */
+static int agreed(uint64_t animal, uint64_t now) {
+    BoughladderReading a = boughladder_table_read(&table, animal, LIMIT, now);
+    BoughladderReading b = boughladder_table_plain_read(&table, animal, LIMIT, now);
+    return a.refusal == b.refusal && a.kind == b.kind && a.permission == b.permission && a.age == b.age;
+}
+
 int main(void) {
     static uint8_t buffer[BOUGHLADDER_LIST_BYTES(PLACES)];
     size_t hand = 0, i;
@@ -112,6 +120,7 @@ int main(void) {
     for (i = 0; i < table.slots_length; i++)
         if (slots[i] != 0 && slots[i] % 65536 == at.place) slots[i] = 0xdeadbeef;
     serve(3102, LIMIT, 914, BOUGHLADDER_HOLDING);
+    wrong += agreed(3102, 914); /* plain read finds her still: no reason to open, and the auditor sees the damage */
     begin();
     load(&today, 915, 2);
     load(&yesterday, 916, 2);
@@ -124,7 +133,10 @@ int main(void) {
     list = boughladder_table_list(&table, buffer, sizeof buffer);
     for (i = 0; i < list.count; i++) {
         BoughladderRecord record = boughladder_record(buffer, i);
-        printf("listed: cow %" PRIu64 ", permission %" PRIu32, record.animal, record.permission);
+        int audited = agreed(record.animal, 920);
+        wrong += !audited;
+        printf("listed%s: cow %" PRIu64 ", permission %" PRIu32, audited ? " and audited" : "", record.animal,
+               record.permission);
         if (record.stamp == BOUGHLADDER_STANDING) puts(", standing");
         else printf(", minute %" PRIu64 "\n", record.stamp);
     }

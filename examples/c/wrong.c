@@ -12,6 +12,8 @@ uint16_t wrong(uint32_t *pointer, const BoughladderTable *read_only) {
     BoughladderTable other = BOUGHLADDER_TABLE(slots, counters, items);
     BOUGHLADDER_CHECK_SHAPE(64, 16, 200);
     answer = boughladder_table_read(&other, 1, 2, 3).kind;
+    answer = (uint16_t)(answer + boughladder_table_plain_read(read_only, 1, 2, 3).kind);
+    answer = (uint16_t)(answer + boughladder_plain_read(items, 800, 1, 2, 3).kind);
     answer = (uint16_t)(answer + boughladder_table_set(&table, 1, 2, 3, 4).refusal);
     answer = (uint16_t)(answer + boughladder_table_set_standing(&table, 1, 2, 3, 4).refusal);
     answer = (uint16_t)(answer + boughladder_set(slots, 256, counters, 16, items, 800, 1, 2, 3, 4, 0).refusal);
@@ -29,7 +31,7 @@ uint16_t wrong(uint32_t *pointer, const BoughladderTable *read_only) {
     BOUGHLADDER_CHECK_SHAPE(3, 1, 200);
 #elif WRONG == 7 /* a refusal that nobody looks at */
     boughladder_table_set(&table, 1, 2, 3, 4);
-#elif WRONG == 8 /* the same with a plain call */
+#elif WRONG == 8 /* the same with a call over the runs */
     boughladder_delete(slots, 256, counters, 16, items, 800, 1);
 #elif WRONG == 9 /* a task that may only read serves */
     answer = boughladder_table_serve(read_only, 1, 2, 3).kind;
@@ -37,8 +39,16 @@ uint16_t wrong(uint32_t *pointer, const BoughladderTable *read_only) {
     answer = (uint16_t)boughladder_table_set(&table, 1, 2, 4).refusal;
 #elif WRONG == 11 /* the same with a standing permission */
     answer = (uint16_t)boughladder_table_set_standing(&table, 1, 2).refusal;
-#elif WRONG == 12 /* the same with a plain call */
+#elif WRONG == 12 /* the same with a call over the runs */
     answer = (uint16_t)boughladder_set(slots, 256, counters, 16, items, 800, 1, 2, 4, 0).refusal;
+#elif WRONG == 13 /* a plain read of the slots */
+    answer = boughladder_plain_read(slots, 256, 1, 2, 3).kind;
+#elif WRONG == 14 /* a plain read that is lent the whole table */
+    answer = boughladder_plain_read(slots, 256, counters, 16, items, 800, 1, 2, 3).kind;
+#elif WRONG == 15 /* its answer that nobody looks at */
+    boughladder_plain_read(items, 800, 1, 2, 3);
+#elif WRONG == 16 /* the same over a table */
+    boughladder_table_plain_read(&table, 1, 2, 3);
 #endif
 #if WRONG >= 1 && WRONG <= 5
     answer = (uint16_t)other.slots_length;

@@ -42,6 +42,10 @@ fn main() -> Result<(), Refusal> {
     assert_eq!(table.delete(gone.victim), Err(Refusal::Nobody));
     let mut buffer = [0; boughladder::list_bytes(3)];
     let records = table.list(&mut buffer)?;
+    // For the auditor: plain read, which knows no hashing, answers as read for every cow on the list.
+    for record in records.clone() {
+        assert_eq!(table.plain_read(record.animal, 720, 840), table.read(record.animal, 720, 840));
+    }
     println!(
         "gate: the list has {} records: {:?}",
         records.len(),

@@ -59,4 +59,5 @@ extern "C" {
         hand: usize, k: u64) -> Evicting;
     pub fn boughladder_list(s: *const u32, sl: usize, c: *const u32, cl: usize, i: *const u64, il: usize,
         buffer: *mut u8, length: usize) -> Listing;
+    pub fn boughladder_plain_read(i: *const u64, il: usize, animal: u64, limit: u64, now: u64) -> Reading;
 }

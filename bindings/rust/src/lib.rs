@@ -13,7 +13,7 @@
 //!
 //! Every call is safe on slices of any length and contents: it ends, touches nothing outside of them, and says what it
 //! found. Calls that write take `&mut self`, serve too, so no other call runs beside them. Two threads share a table in
-//! a `Mutex`, or in a `RwLock`: reads, finds and lists may run beside each other.
+//! a `Mutex`, or in a `RwLock`: reads, plain reads, finds and lists may run beside each other.
 //!
 //! A set takes two minutes, issued before now. `issued` is when the office gave the permission, as the list says; it
 //! becomes the stamp. `now` is the gate's clock. Swapped, they are [`Refusal::BadTime`] where issued is earlier than
@@ -140,7 +140,7 @@ impl fmt::Display for Refusal {
 
 impl std::error::Error for Refusal {}
 
-/// What read and serve say. Fresh alone opens nothing: see [`lane`].
+/// What read, serve and plain read say. Fresh alone opens nothing: see [`lane`].
 #[derive(Clone, Copy, Debug, PartialEq, Eq)]
 pub enum Reading {
     /// The animal is not held.
@@ -162,7 +162,7 @@ pub enum Lane {
 }
 
 /// The lane by an answer of read or serve: of a fresh permission bit 0 means milking, else bit 1 grazing, else holding.
-/// Every other answer and every refusal means holding.
+/// Every other answer and every refusal means holding. Not by an answer of plain read, which tells of no damage.
 pub fn lane(reading: Result<Reading, Refusal>) -> Lane {
     match reading {
         Ok(Reading::Fresh { permission, .. }) if permission & MAY_MILK != 0 => Lane::Milking,
@@ -295,6 +295,20 @@ fn evicted(r: ffi::Evicting) -> Result<Evicted, Refusal> {
     done(r.refusal, Evicted { victim: r.victim, looked: r.looked, hand: r.hand })
 }
 
+/// Read without hashing, for an auditor, who may have the item words alone. It walks the places in order, takes the
+/// first with that number, and judges it as read does, its permission word modulo 2^32. It is slower: it may walk all
+/// places.
+///
+/// On a table that finished calls have made from fresh on, it answers as [`Table::read`] does, for every number, limit
+/// and minute. So where the two differ, a call was cut off, something else wrote, or other lengths were lent.
+/// It answers there too, even where read is busy or damaged, and that answer opens no gate.
+///
+/// It refuses with [`Refusal::BadShape`] for the length of the items, [`Refusal::NoAnimal`] and [`Refusal::BadTime`].
+pub fn plain_read(items: &[u64], animal: u64, limit: u64, now: u64) -> Result<Reading, Refusal> {
+    // Sound as above.
+    told(unsafe { ffi::boughladder_plain_read(items.as_ptr(), items.len(), animal, limit, now) })
+}
+
 impl Table<'_> {
     /// Makes a table of the memory: 0 in every word. The only call that helps a busy counter.
     pub fn fresh(&mut self) -> Result<(), Refusal> {
@@ -369,5 +383,11 @@ impl Table<'_> {
         let r = reads!(self, boughladder_list, buffer.as_mut_ptr(), buffer.len());
         done(r.refusal, ())?;
         Ok(Records::of(&buffer[..list_bytes(r.count)]))
+    }
+
+    /// [`plain_read`] of the items: as read, where finished calls have made the table from fresh on. It looks at no
+    /// slots and counters, and what it answers on a damaged table opens no gate.
+    pub fn plain_read(&self, animal: u64, limit: u64, now: u64) -> Result<Reading, Refusal> {
+        plain_read(self.items, animal, limit, now)
     }
 }

@@ -336,6 +336,158 @@ fn a_damaged_word() {
     assert_eq!(table.read(1, 720, 110), fresh(1, 10));
 }
 
+// Plain read over the table and over its items alone, which say the same.
+fn plainly(table: &Table, animal: u64, limit: u64, now: u64) -> Result<Reading, Refusal> {
+    let said = plain_read(table.items, animal, limit, now);
+    assert_eq!(table.plain_read(animal, limit, now), said);
+    said
+}
+
+// Plain read answers as read: for these animals, 0 and absent ones, and for bad limits and minutes too.
+fn agree(table: &Table, animals: &[u64]) {
+    for animal in animals.iter().copied().chain([0, 4799, u64::MAX]) {
+        for limit in [0, 12, 720, LARGEST_LIMIT, LARGEST_LIMIT + 1, u64::MAX] {
+            for now in [0, 99, 100, 820, 821, 900, 902, 903, 10180, 10181, u64::MAX - 1, u64::MAX] {
+                let (plain, read) = (plainly(table, animal, limit, now), table.read(animal, limit, now));
+                assert_eq!(plain, read, "animal {animal}, limit {limit}, minute {now}");
+            }
+        }
+    }
+}
+
+#[test]
+fn plain_read_over_a_day() {
+    let mut memory = lent(32, 4, items(5));
+    let mut table = memory.table();
+    let day: [fn(&mut Table) -> bool; 15] = [
+        |t| t.fresh().is_ok(),
+        |t| t.set(4711, 1, 100, 100).is_ok(),
+        |t| t.set(4712, 0, 100, 100).is_ok(),
+        |t| t.set(4713, u32::MAX, 100, 100).is_ok(),
+        |t| t.serve(4711, 720, 820) == fresh(1, 720),
+        |t| t.set_standing(900, 2, 840, 840).is_ok(),
+        |t| t.set(4711, 3, 890, 900).is_ok(),
+        |t| t.set(4711, 1, 100, 902) == Err(Refusal::Late),
+        |t| t.delete(4711).is_ok(), // place 0 is vacant now
+        |t| t.delete(4711) == Err(Refusal::Nobody),
+        |t| t.set(4714, 1, 890, 902).is_ok(),
+        |t| t.set(4715, 1, 902, 902).is_ok(),
+        |t| t.set(4716, 1, 902, 902) == Err(Refusal::NoPlace),
+        |t| t.evict(1).is_ok(),
+        |t| t.set(4716, 1, 902, 902).is_ok(),
+    ];
+    for step in day {
+        assert!(step(&mut table));
+        agree(&table, &[4711, 4712, 4713, 900, 4714, 4715, 4716]);
+    }
+
+    // And where an entry is moved to make room.
+    let herd = [358, 687, 1012, 1334, 248, 734, 913, 1710, 5];
+    let mut memory = lent(slots(4), 4, items(9));
+    let mut table = memory.table();
+    table.fresh().unwrap();
+    for animal in herd {
+        table.set(animal, 1, 100, 100).unwrap();
+        agree(&table, &herd);
+    }
+}
+
+#[test]
+fn plain_read_judges() {
+    // She is in the last place, behind a vacant one.
+    let mut memory = lent(slots(2), 1, items(3));
+    let table = memory.table();
+    table.items.copy_from_slice(&[8, 1, 50, 1, 0, 0, 0, 0, 7, 5, 100, 0]);
+    assert_eq!(plainly(&table, 7, 720, 820), fresh(5, 720));
+    assert_eq!(plainly(&table, 7, 720, 821), Ok(Reading::Old { age: 721 }));
+    assert_eq!(plainly(&table, 7, 720, 99), Ok(Reading::Ahead));
+    assert_eq!(plainly(&table, 7, LARGEST_LIMIT, 10180), fresh(5, 10080));
+    assert_eq!(plainly(&table, 7, 0, u64::MAX - 1), Ok(Reading::Old { age: u64::MAX - 101 }));
+    assert_eq!(plainly(&table, 8, 720, 770), fresh(1, 720));
+    assert_eq!(plainly(&table, 9, 720, 820), Ok(Reading::Absent));
+    assert_eq!(plainly(&table, 7 + (1 << 32), 720, 820), Ok(Reading::Absent));
+    // It marks nobody.
+    assert_eq!(table.items[8..], [7, 5, 100, 0]);
+
+    // A permission word above 32 bits is told modulo 2^32.
+    for (word, permission) in [(5 + (1 << 32), 5), (1 << 32, 0), (u64::MAX, u32::MAX)] {
+        table.items[9] = word;
+        assert_eq!(plainly(&table, 7, 720, 820), fresh(permission, 720));
+    }
+    table.items[10] = STANDING;
+    assert_eq!(plainly(&table, 7, 0, 0), fresh(u32::MAX, 0));
+    assert_eq!(plainly(&table, 7, 720, u64::MAX - 1), fresh(u32::MAX, 0));
+
+    // Twins: the first place decides, whatever the other one is.
+    table.items.copy_from_slice(&[8, 1, 50, 1, 7, 6, 100, 1, 7, 5, 110, 1]);
+    assert_eq!(plainly(&table, 7, 720, 820), fresh(6, 720));
+    assert_eq!(plainly(&table, 7, 720, 821), Ok(Reading::Old { age: 721 }));
+    table.items[6] = 900;
+    assert_eq!(plainly(&table, 7, 720, 820), Ok(Reading::Ahead));
+}
+
+#[test]
+fn plain_read_refuses() {
+    let mut memory = lent(slots(2), 1, 20000);
+    for length in [0, 3, 4, 5, 6, 7, 8, 16380, 16383, 16384, 16385, 16388, 20000] {
+        let words = &mut memory.items[..length];
+        words.fill(0);
+        // She is in the last place.
+        let last = (length / 4).saturating_sub(1) * 4;
+        if length >= 4 {
+            words[last..last + 4].copy_from_slice(&[7, 5, 100, 1]);
+        }
+        let good = [4, 8, 16380, 16384].contains(&length);
+        let said = if good { fresh(5, 720) } else { Err(Refusal::BadShape) };
+        assert_eq!(plain_read(words, 7, 720, 820), said, "{length}");
+        // Its turn is before those of the animal and the times, in this order.
+        let first = |otherwise| Err(if good { otherwise } else { Refusal::BadShape });
+        assert_eq!(plain_read(words, 0, 720, 820), first(Refusal::NoAnimal));
+        assert_eq!(plain_read(words, 0, LARGEST_LIMIT + 1, 820), first(Refusal::NoAnimal));
+        assert_eq!(plain_read(words, 0, 720, u64::MAX), first(Refusal::NoAnimal));
+        assert_eq!(plain_read(words, 7, LARGEST_LIMIT + 1, 820), first(Refusal::BadTime));
+        assert_eq!(plain_read(words, 9, 720, u64::MAX), first(Refusal::BadTime));
+        if length == 8 {
+            // One place is lent, and she is behind it.
+            assert_eq!(plain_read(&words[..4], 7, 720, 820), Ok(Reading::Absent));
+        }
+    }
+
+    // Slots and counters of wrong lengths are no refusal.
+    for (s, c) in [(0, 0), (12, 1), (8, 0), (16384, 1), (8, 1025)] {
+        let mut memory = lent(s, c, items(1));
+        let table = memory.table();
+        table.items.copy_from_slice(&[7, 5, 100, 1]);
+        assert_eq!(table.read(7, 720, 820), Err(Refusal::BadShape));
+        assert_eq!(plainly(&table, 7, 720, 820), fresh(5, 720));
+    }
+}
+
+#[test]
+fn plain_read_walks_on() {
+    // Busy: each store of a new entry is seen, and a permission 5 with no stamp yet looks fresh.
+    for k in 1..=6 {
+        let mut memory = lent(slots(4), 1, items(5));
+        let mut table = memory.table();
+        table.fresh().unwrap();
+        assert_eq!(table.set_cut(7, 5, 90, 100, k), stored(1, 0));
+        assert_eq!(table.read(7, 720, 100), Err(Refusal::Busy));
+        let half = [Ok(Reading::Absent), fresh(0, 100), fresh(5, 100), fresh(5, 10)];
+        assert_eq!(plainly(&table, 7, 720, 100), half[(k as usize - 1).min(3)]);
+    }
+
+    let mut memory = lent(slots(4), 4, items(5));
+    let mut table = memory.table();
+    table.fresh().unwrap();
+    table.set(1, 1, 100, 100).unwrap();
+    let slot = table.slots.iter().position(|word| *word != 0).unwrap();
+    for (word, said) in [(0xdead_beef, Err(Refusal::Damaged)), (0, Ok(Reading::Absent))] {
+        table.slots[slot] = word;
+        assert_eq!(table.read(1, 720, 110), said);
+        assert_eq!(plainly(&table, 1, 720, 110), fresh(1, 10));
+    }
+}
+
 #[test]
 fn lanes() {
     let by = |permission| lane(fresh(permission, 0));

@@ -34,6 +34,7 @@ static void make(const char *op, const uint64_t *n) {
     memset(buffer, 0xa5, sizeof buffer);
     if (!strcmp(op, "fresh")) MARKED(d = boughladder_fresh(LENT));
     else if (!strcmp(op, "read")) MARKED(r = boughladder_read(LENT, n[0], n[1], n[2]));
+    else if (!strcmp(op, "plain_read")) MARKED(r = boughladder_plain_read(items, i, n[0], n[1], n[2]));
     else if (!strcmp(op, "serve")) MARKED(r = boughladder_serve(LENT, n[0], n[1], n[2]));
     else if (!strcmp(op, "find")) MARKED(f = boughladder_find(LENT, n[0]));
     else if (!strcmp(op, "set")) MARKED(t = boughladder_set(LENT, n[0], (uint32_t)n[1], n[2], n[3], (uint32_t)n[4]));

@@ -34,8 +34,13 @@ class Table:
         self.stores = []
 
     def check_lengths(self):
-        s, c, i = (self.length[run] for run in RUNS)
-        if s not in [4 * 2**e for e in range(1, 12)] or not 1 <= c <= 1024 or i % 4 or not 1 <= i // 4 <= 4096:
+        s, c = self.length['slots'], self.length['counters']
+        if s not in [4 * 2**e for e in range(1, 12)] or not 1 <= c <= 1024:
+            raise Refusal(1)
+        self.check_items()
+
+    def check_items(self):
+        if self.length['items'] % 4 or not 1 <= self.places <= 4096:
             raise Refusal(1)
 
     def put(self, run, index, value):
@@ -94,21 +99,34 @@ def hit(t, animal):
 
 # ---- The calls: each answers with its four numbers, refusal first ---------
 
-def read(t, animal, limit, now):
+def check_asked(animal, limit, now):
     if animal == 0:
         raise Refusal(2)
     if limit > 10080 or now == TOP:
         raise Refusal(3)
-    slot = hit(t, animal)
-    if slot is None:
-        return 0, 0, 0, 0
-    place = t.word['slots'][slot] % 65536
+
+
+def judged(t, place, limit, now):
     permission, stamp = t.item(place, 1) % 2**32, t.item(place, 2)
     if stamp == TOP:
         return 0, 1, permission, 0
     if stamp > now:
         return 0, 3, 0, 0
     return (0, 1, permission, now - stamp) if now - stamp <= limit else (0, 2, 0, now - stamp)
+
+
+def read(t, animal, limit, now):
+    check_asked(animal, limit, now)
+    slot = hit(t, animal)
+    return (0, 0, 0, 0) if slot is None else judged(t, t.word['slots'][slot] % 65536, limit, now)
+
+
+def plain_read(t, animal, limit, now):
+    check_asked(animal, limit, now)
+    for place in range(t.places):
+        if t.item(place, 0) == animal:
+            return judged(t, place, limit, now)
+    return 0, 0, 0, 0
 
 
 def serve(t, animal, limit, now):
@@ -243,8 +261,8 @@ def fresh(t):
     return 0, 0, 0, 0
 
 
-CALLS = {'fresh': fresh, 'read': read, 'serve': serve, 'find': find, 'set': set_, 'delete': delete, 'evict': evict,
-         'list': list_}
+CALLS = {'fresh': fresh, 'read': read, 'plain_read': plain_read, 'serve': serve, 'find': find, 'set': set_,
+         'delete': delete, 'evict': evict, 'list': list_}
 
 
 def call(t, op, numbers):
@@ -254,7 +272,7 @@ def call(t, op, numbers):
     t.stores, t.word['buffer'] = [], [0xa5] * ROOM['buffer']
     whole = copy.deepcopy(t)
     try:
-        whole.check_lengths()
+        (whole.check_items if name == 'plain_read' else whole.check_lengths)()
         answer = CALLS[name](whole, *arguments)
     except Refusal as refusal:
         whole.stores = []
