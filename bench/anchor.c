@@ -346,3 +346,21 @@ BoughladderListing anchor_list(ANCHOR_LENT, uint8_t *buffer, size_t buffer_lengt
     l.count = live;
     return l;
 }
+
+/* The places in order, one a turn. It judges the age in lines of its own, so that a slip in read's is no slip here. */
+BoughladderReading anchor_plain_read(const uint64_t *items, size_t il, uint64_t animal, uint64_t limit, uint64_t now) {
+    BoughladderReading r = {0, 0, 0, 0};
+    if (il < 4 || il > 16384 || il % 4 != 0) { r.refusal = 1; return r; }
+    if (animal == 0) { r.refusal = 2; return r; }
+    if (limit > 10080 || now == STANDING) { r.refusal = 3; return r; }
+    size_t i = 0;
+    while (i < il && items[i] != animal) i += 4;
+    if (i == il) { r.kind = BOUGHLADDER_ABSENT; return r; }
+    uint64_t stamp = items[i + 2];
+    if (stamp == STANDING) stamp = now; /* age 0, which no limit is below */
+    if (stamp > now) { r.kind = BOUGHLADDER_AHEAD; return r; }
+    r.age = now - stamp;
+    r.kind = r.age > limit ? BOUGHLADDER_OLD : BOUGHLADDER_FRESH;
+    if (r.kind == BOUGHLADDER_FRESH) r.permission = (uint32_t)items[i + 1];
+    return r;
+}

@@ -71,7 +71,7 @@ static const char *const edges[] = {
     "4294967296", "0", "1", "00", "65536", "10080", "10081", "81919", "81920", "81921", "8192", "8196", "16384", "1024",
     "1025", "4096", "4100", "-0", "-1", "+1", "1.", "1,024", "0x10", "1e3", "1_0", "'1'", "standing", "set", "\v1", "1\f",
     "\xc2\xa0", "\r", "1\r", "\\", "/", ":", "9:", "\xef\xbb\xbf", "standig", "evict", "slots",
-    "99999999999999999999x", "x99999999999999999999",
+    "99999999999999999999x", "x99999999999999999999", "plain",
 };
 
 static void put(const char *text) {
@@ -174,16 +174,21 @@ static void a_write(void) {
     }
 }
 
+/* Mostly well-formed: the slips come from word, number and a_line. */
+static void an_ask(void) {
+    static const char *const asks[] = {"read", "serve", "plain"};
+    word(asks[below(3)]);
+    number(one_in(40) ? 0 : an_animal());
+    number(one_in(2) ? 720 : one_in(2) ? below(1000) : 10079 + below(3));
+    number(one_in(60) ? UINT64_MAX - below(2) : a_minute());
+}
+
 static void a_call(void) {
     uint64_t kind = below(100);
     if (one_in(150)) fresh();
     else if (kind < 45) a_write();
-    else if (kind < 80) {
-        word(one_in(2) ? "read" : "serve");
-        number(an_animal());
-        number(one_in(2) ? 720 : one_in(2) ? below(1000) : 10079 + below(3));
-        number(a_minute());
-    } else if (kind < 84) word("hand"), number(below(items / 4 + 1));
+    else if (kind < 80) an_ask();
+    else if (kind < 84) word("hand"), number(below(items / 4 + 1));
     else if (kind < 88) {
         word("list");
         number(one_in(2) ? below(5 * items + 21) : one_in(2) ? 20 * below(items / 4 + 1) : 81919 + below(3));
@@ -207,12 +212,14 @@ static void a_line(void) {
     fwrite(line, 1, used, stdout);
 }
 
-/* The first lines have no table. The last one shows every word; its line end may be missing, or half of it. */
+/* The first lines have no table, and in the first of all 1 comes before 2 and 3. The last line shows every word; its line
+   end may be missing, or half of it. */
 static void the_edges(uint64_t seed, uint64_t count) {
     static const char *const ends[] = {"\n", "", "\r\n", "\r"};
     if (seed % 3 == 0) fputs("\xef\xbb\xbf", stdout); /* the byte order mark */
     for (uint64_t made = 1; made < count; made++)
-        if (made == 40) puts("fresh 16 4 20");
+        if (made == 1) puts("plain 0 10081 1");
+        else if (made == 40) puts("fresh 16 4 20");
         else a_line();
     printf("dump%s", ends[seed % 4]);
 }

@@ -13,10 +13,13 @@
 
 static Table ours, theirs, others;
 
-/* How each table is passed to its calls. */
+/* How each table is passed to its calls, and its items to the plain read. */
 #define boughladder_TABLE TABLE
 #define anchor_TABLE TABLE
 #define second_TABLE &second
+#define boughladder_ITEMS t->items, 4 * M
+#define anchor_ITEMS t->items, 4 * M
+#define second_ITEMS &second
 
 /* Not inlined, so that callgrind tells each kind of work by its name. */
 #define WORK(name)                                           \
@@ -31,6 +34,10 @@ static Table ours, theirs, others;
     WORK(who##_serves)                                                                                                  \
         for (size_t i = 0; i < CALLS; i++)                                                                              \
             t->sum += who##_serve(who##_TABLE, i % 10 ? held[i] : i + 1, LIMIT, NOW).kind;                              \
+    }                                                                                                                   \
+    WORK(who##_plains)                                                                                                  \
+        for (size_t i = 0; i < CALLS; i++)                                                                              \
+            t->sum += who##_plain_read(who##_ITEMS, i % 10 ? held[i] : i + 1, LIMIT, NOW).kind;                         \
     }                                                                                                                   \
     WORK(who##_updates)                                                                                                 \
         for (size_t i = 0; i < CALLS; i++) t->sum += who##_set(who##_TABLE, held[i], 1, NOW, NOW, 0).refusal;           \
@@ -67,6 +74,7 @@ int main(void) {
     theirs = others = ours;
     ALL(reads);
     ALL(serves);
+    ALL(plains);
     ALL(updates);
     ALL(deletes);
     ALL(new);

@@ -1,7 +1,8 @@
 /*
  * differ.c: the same random calls on the proved table, on the anchor and on the second C table, with equal memory.
  * After EVERY call, in every shape, all fields of the reply and all words of the three runs are compared (and, after a
- * list, all bytes of the buffer). The second table has read, serve, set and delete; its other calls are the anchor's.
+ * list, all bytes of the buffer). The second table has read, serve, plain_read, set and delete; its other calls are the
+ * anchor's.
  * Use: differ [seed [percent]], the percent being the share of 4.6 million calls. It ends with 1 at the first difference.
  *
  * An episode is one shape, one herd and one kind of memory:
@@ -9,6 +10,12 @@
  *     cut      as clean, and some calls are cut after a random number k of stores
  *     poked    as cut, and now and then one random word is overwritten by a random one
  *     garbage  all three runs hold random words from the start
+ *
+ * Behind each call come plain reads of our memory, before its words are compared, so that a word that they write shows:
+ *     clean    where finished calls from fresh have made the table, in an episode of any kind: of the call's animal, of 0,
+ *              of one that is held and of a random one, each beside our read, the same in every field
+ *     other    of one that stands in the item words and of a random one, each beside both C walks
+ * On M 4096, where a walk is long, they come behind one call in LARGE_SHARE.
  */
 #include "anchor.h"
 #include "second.h"
@@ -22,12 +29,13 @@
 #define BLOCK (4 * GUARD + 4096 + 512 + 16384)
 #define BUFFER (20 * 4096 + 64)
 #define POOL 9000
+#define LARGE_SHARE 8
 
 enum { OURS, ANCHOR, SECOND, TABLES };
 enum { CLEAN, CUT, POKED, GARBAGE, KINDS };
-enum { FRESH, READ, SERVE, FIND, SET, SETCUT, DELETE, DELETECUT, EVICT, EVICTCUT, LIST, CALLS };
-static const char *const call_names[CALLS] = {"fresh", "read", "serve", "find", "set", "set_cut", "delete", "delete_cut",
-                                              "evict", "evict_cut", "list"};
+enum { FRESH, READ, SERVE, PLAIN, FIND, SET, SETCUT, DELETE, DELETECUT, EVICT, EVICTCUT, LIST, CALLS };
+static const char *const call_names[CALLS] = {"fresh", "read", "serve", "plain_read", "find", "set", "set_cut", "delete",
+                                              "delete_cut", "evict", "evict_cut", "list"};
 static const char *const table_names[TABLES] = {"ours", "anchor", "second"};
 static const char *const kind_names[KINDS] = {"clean", "cut", "poked", "garbage"};
 
@@ -35,6 +43,16 @@ static const char *const kind_names[KINDS] = {"clean", "cut", "poked", "garbage"
 enum { NOBODY, EARLIER, EQUAL, LATER, HELD_STANDS, NEW_STANDS, BOTH_STAND, MEETINGS };
 static const char *const meeting_names[MEETINGS] = {"none held", "earlier", "equal", "later", "standing", "new one standing",
                                                     "both standing"};
+
+/* What read says where plain is asked the same on memory that is not clean. */
+enum { ALIKE, BUSY, DAMAGED, UNSEEN, ELSEWHERE, BESIDES };
+static const char *const beside_names[BESIDES] = {"the same", "refused 8", "refused 4", "absent, and plain finds her",
+                                                  "another permission or stamp"};
+
+/* The plain reads behind the calls; on memory that is not clean, what the places that were found are like, too. */
+typedef struct {
+    uint64_t asked, by_answer[4], by_refusal[4], shorter, last, standing, wide, twins;
+} Plains;
 
 /* One table: its block of memory, and where the runs lie in it. */
 typedef struct {
@@ -63,6 +81,9 @@ static size_t n, v, m, pool_size, used; /* used: 64-bit words of the block in us
 static uint64_t state, seed = 1, percent = 100;
 static uint64_t calls, words, by_call[CALLS], by_refusal[12], by_moves[5], by_load[11], by_kind[KINDS], by_answer[4];
 static uint64_t by_meeting[MEETINGS], most_visits, large_calls, stopped_cuts, issued_later, asked_after, bytes;
+static uint64_t by_beside[BESIDES];
+static int clean; /* whether finished calls from fresh have made the table, all with the lengths that fresh got */
+static Plains plains[2]; /* by clean */
 
 static uint64_t any(void) { /* splitmix64 */
     uint64_t z = (state += UINT64_C(0x9e3779b97f4a7c15));
@@ -159,6 +180,14 @@ static void poke(void) {
         ours->items[i] = an_item_word(i);
         for (int k = 1; k < TABLES; k++) tables[k].items[i] = ours->items[i];
     }
+    clean = 0;
+}
+
+static Reply of_reading(BoughladderReading x) {
+    Reply r;
+    memset(&r, 0, sizeof r);
+    r.refusal = x.refusal; r.kind = x.kind; r.permission = x.permission; r.age = x.age;
+    return r;
 }
 
 static Reply make(const Call *c, int who) {
@@ -171,12 +200,11 @@ static Reply make(const Call *c, int who) {
 #define ANY(name, ...) (who == SECOND ? second_##name(&second, __VA_ARGS__) : EITHER(name, TABLE, __VA_ARGS__))
     switch (c->call) {
     case FRESH: r.refusal = EITHER(fresh, TABLE); break;
-    case READ: case SERVE: {
-        BoughladderReading x = c->call == READ ? ANY(read, c->animal, c->limit, c->now)
-                                               : ANY(serve, c->animal, c->limit, c->now);
-        r.refusal = x.refusal; r.kind = x.kind; r.permission = x.permission; r.age = x.age;
-        break;
-    }
+    case READ: return of_reading(ANY(read, c->animal, c->limit, c->now));
+    case SERVE: return of_reading(ANY(serve, c->animal, c->limit, c->now));
+    case PLAIN:
+        return of_reading(who == SECOND ? second_plain_read(&second, c->animal, c->limit, c->now)
+                                        : EITHER(plain_read, t->items, c->il, c->animal, c->limit, c->now));
     case FIND: {
         BoughladderFinding x = EITHER(find, TABLE, c->animal);
         r.refusal = x.refusal; r.kind = x.kind; r.place = x.place;
@@ -238,12 +266,15 @@ static void differs(const Call *c, const Reply *a, const Reply *b, int who, int 
     exit(1);
 }
 
-/* A length that is wrong or shorter; never one that is both good and longer than the memory. */
-static void bend_lengths(Call *c) {
+static int writes(const Call *c) { return c->call != READ && c->call != PLAIN && c->call != FIND && c->call != LIST; }
+
+/* A length that is wrong or shorter; never one that is both good and longer than the memory. A call that writes gets only
+   wrong ones where the memory is to stay clean. */
+static void bend_lengths(Call *c, int kind) {
     static const size_t odd_sl[] = {0, 4, 7, 9, 12, 16384, 8196, 24, SIZE_MAX, (size_t)1 << 33};
     static const size_t odd_cl[] = {0, 1025, SIZE_MAX, (size_t)1 << 32};
     static const size_t odd_il[] = {0, 1, 3, 16388, 32768, SIZE_MAX - 3, (size_t)1 << 34};
-    switch (below(6)) {
+    switch (below(kind == CLEAN && writes(c) ? 3 : 6)) {
     case 0: c->sl = odd_sl[below(10)]; break;
     case 1: c->cl = odd_cl[below(4)]; break;
     case 2: c->il = odd_il[below(7)]; break;
@@ -297,7 +328,8 @@ static Call a_call(int kind, int growing, size_t hand, const Call *last) {
     }
     c.k = one_in(6) ? below(5000) : below(26);
     uint64_t dice = below(100);
-    if (dice < 14) c.call = READ;
+    if (dice < 12) c.call = READ;
+    else if (dice < 14) c.call = PLAIN;
     else if (dice < 22) c.call = SERVE;
     else if (dice < 26) c.call = FIND;
     else if (dice < (growing ? 86u : 46u)) c.call = SET;
@@ -315,7 +347,7 @@ static Call a_call(int kind, int growing, size_t hand, const Call *last) {
         if (c.call == DELETE) { c.call = DELETECUT; c.k = 7; }
     }
     if (one_in(60)) c.hand = one_in(3) ? m + below(2) : one_in(20) ? SIZE_MAX : below(m);
-    if (one_in(150)) bend_lengths(&c);
+    if (one_in(150)) bend_lengths(&c, kind);
     c.buffer_length = one_in(2) ? BUFFER : below(20 * m + 20);
     return c;
 }
@@ -325,6 +357,117 @@ static size_t live_places(void) {
     size_t live = 0;
     for (size_t i = 0; i < m; i++) live += ours->items[4 * i] != 0;
     return live;
+}
+
+/* After a call: whether the table is clean. */
+static int stays_clean(const Call *c, const Reply *told) {
+    int whole = c->sl == 4 * n && c->cl == v && c->il == 4 * m;
+    if (told->refusal != 0 || !writes(c)) return clean;
+    if (c->call == FRESH) return whole;
+    return clean && whole && c->call != SETCUT && c->call != DELETECUT && c->call != EVICTCUT;
+}
+
+/* A limit and a minute for a stamp: good ones, bad ones, and those about her first and her last fresh minute. */
+static void a_time(Call *q, uint64_t stamp) {
+    q->limit = one_in(8) ? 10079 + below(3) : one_in(30) ? any() : below(10081);
+    if (one_in(60)) q->limit += any() << 32; /* a good limit, if somebody keeps 32 bits of it */
+    switch (below(8)) {
+    case 0: q->now = stamp - 1 + below(3); break;
+    case 1: case 2: q->now = stamp + q->limit - 1 + below(3); break;
+    case 3: q->now = one_in(2) ? any() : UINT64_MAX - below(3); break;
+    default: q->now = 20000 + below(14000);
+    }
+}
+
+/* The item words of a live place, or place 0. The places fill from the lowest on: below the number of live ones it is near. */
+static const uint64_t *a_live_place(size_t live) {
+    size_t p = below(live < m ? live + 1 : m);
+    while (p > 0 && ours->items[4 * p] == 0) p--;
+    return ours->items + 4 * p;
+}
+
+static int alike(BoughladderReading a, BoughladderReading b) {
+    return a.refusal == b.refusal && a.kind == b.kind && a.permission == b.permission && a.age == b.age;
+}
+
+static void plain_differs(const Call *q, BoughladderReading plain, const char *who, BoughladderReading other, int kind) {
+    printf("DIFFERENCE of the plain read behind call %" PRIu64 ", seed %" PRIu64 ", memory %s%s, N %zu V %zu M %zu\n", calls, seed,
+           kind_names[kind], clean ? ", clean" : "", n, v, m);
+    printf("  items length %zu animal %" PRIu64 " limit %" PRIu64 " now %" PRIu64 "\n", q->il, q->animal, q->limit, q->now);
+    Reply a = of_reading(plain), b = of_reading(other);
+    tell("plain", &a);
+    tell(who, &b);
+    for (size_t p = 0; p < m; p++)
+        if (ours->items[4 * p] == q->animal && q->animal != 0)
+            printf("  she stands at place %zu: permission %" PRIu64 " stamp %" PRIu64 "\n", p, ours->items[4 * p + 1],
+                   ours->items[4 * p + 2]);
+    exit(1);
+}
+
+/* Twins: her number stands at another place behind the first. */
+static void count_plain(const Call *q, BoughladderReading plain) {
+    Plains *p = &plains[clean];
+    p->asked++;
+    p->by_refusal[plain.refusal]++;
+    if (plain.refusal != 0) return;
+    p->by_answer[plain.kind]++;
+    p->shorter += q->il < 4 * m;
+    if (clean || plain.kind == BOUGHLADDER_ABSENT) return;
+    const uint64_t *item = ours->items, *end = item + q->il;
+    while (item[0] != q->animal) item += 4;
+    p->last += item + 4 == end;
+    p->standing += item[2] == UINT64_MAX;
+    p->wide += item[1] > UINT32_MAX;
+    for (item += 4; item < end; item += 4)
+        if (item[0] == q->animal) {
+            p->twins++;
+            break;
+        }
+}
+
+/* A plain read of our memory, beside what it must agree with. */
+static void ask_plainly(const Call *q, int kind) {
+    const BoughladderTable t = {ours->slots, 4 * n, ours->counters, v, ours->items, q->il};
+    BoughladderReading plain = boughladder_table_plain_read(&t, q->animal, q->limit, q->now);
+    BoughladderReading read = boughladder_table_read(&t, q->animal, q->limit, q->now);
+    if (clean) {
+        if (!alike(plain, read)) plain_differs(q, plain, "read", read, kind);
+    } else {
+        BoughladderReading one = anchor_plain_read(t.items, t.items_length, q->animal, q->limit, q->now);
+        BoughladderReading two = second_plain_read(&t, q->animal, q->limit, q->now);
+        if (!alike(plain, one)) plain_differs(q, plain, "anchor", one, kind);
+        if (!alike(plain, two)) plain_differs(q, plain, "second", two, kind);
+        int found = plain.refusal == 0 && plain.kind != BOUGHLADDER_ABSENT;
+        if (alike(plain, read)) by_beside[ALIKE]++;
+        else if (read.refusal == 8) by_beside[BUSY]++;
+        else if (read.refusal == 4) by_beside[DAMAGED]++;
+        else if (read.refusal == 0 && found) by_beside[read.kind == BOUGHLADDER_ABSENT ? UNSEEN : ELSEWHERE]++;
+        else plain_differs(q, plain, "read", read, kind); /* whom read finds, plain finds */
+    }
+    count_plain(q, plain);
+}
+
+/* The plain reads behind a call. */
+static void audit(const Call *c, int kind, size_t live) {
+    static const size_t wrong[] = {0, 1, 2, 3, 5, 16385, 16387, 16388, 32768, SIZE_MAX - 3, ((size_t)1 << 32) + 4,
+                                   ((size_t)1 << 34) + 4};
+    Call q = *c;
+    q.il = !one_in(16) ? 4 * m : clean || one_in(2) ? wrong[below(12)] : 1 + below(4 * m);
+    const uint64_t *item = a_live_place(live);
+    if (clean) {
+        a_time(&q, c->issued), ask_plainly(&q, kind);
+        q.animal = 0;
+        a_time(&q, 0), ask_plainly(&q, kind);
+    }
+    q.animal = item[0];
+    a_time(&q, item[2]), ask_plainly(&q, kind);
+    switch (below(8)) {
+    case 0: q.animal ^= UINT64_C(1) << below(64); break; /* a number that differs from hers in one bit */
+    case 1: q.animal = c->animal; break;
+    case 2: q.animal = ours->items[below(4 * m)]; break; /* any item word: a stamp is no number */
+    default: q.animal = an_animal();
+    }
+    a_time(&q, item[2]), ask_plainly(&q, kind);
 }
 
 static void episode(int large, int kind, uint64_t length) {
@@ -352,6 +495,7 @@ static void episode(int large, int kind, uint64_t length) {
 
     size_t hand = 0, load = 0;
     int growing = 1, late = 0;
+    clean = 0;
     Call c;
     memset(&c, 0, sizeof c);
     uint64_t turn = 1 + below(large ? 12000 : 6 * room + 20);
@@ -369,6 +513,8 @@ static void episode(int large, int kind, uint64_t length) {
         int setting = c.call == SET || c.call == SETCUT, met = setting ? meeting(&c) : NOBODY;
         Reply told = make(&c, OURS);
         calls++;
+        clean = stays_clean(&c, &told);
+        if (!large || i % LARGE_SHARE == 0) audit(&c, kind, load);
         for (int k = 1; k < TABLES; k++) {
             Reply other = make(&c, k);
             int same = memcmp(&told, &other, sizeof told) == 0 && memcmp(ours->block, tables[k].block, 8 * used) == 0;
@@ -421,6 +567,18 @@ int main(int argc, char **argv) {
     for (int i = 0; i < MEETINGS; i++) printf("  %s %" PRIu64, meeting_names[i], by_meeting[i]);
     printf("\nsets refused 3 for an issue after now: %" PRIu64 "\nreads and serves of the animal right after 11: %" PRIu64, issued_later, asked_after);
     printf("\nread and serve:  absent %" PRIu64 "  fresh %" PRIu64 "  old %" PRIu64 "  ahead %" PRIu64, by_answer[0], by_answer[1], by_answer[2], by_answer[3]);
+    printf("\nplain reads behind every call, on M 4096 behind one in %d:", LARGE_SHARE);
+    for (int i = 1; i >= 0; i--) {
+        const Plains *p = &plains[i];
+        printf("\n  %s %" PRIu64 ":  absent %" PRIu64 "  fresh %" PRIu64 "  old %" PRIu64 "  ahead %" PRIu64,
+               i ? "on clean tables, each as read," : "on other memory, each as both C walks,", p->asked, p->by_answer[0],
+               p->by_answer[1], p->by_answer[2], p->by_answer[3]);
+        for (int k = 1; k < 4; k++) printf("  %d: %" PRIu64, k, p->by_refusal[k]);
+    }
+    printf("\n    at the last place %" PRIu64 "  standing %" PRIu64 "  permission word above 32 bits %" PRIu64 "  twins behind her %" PRIu64
+           "  shorter items %" PRIu64, plains[0].last, plains[0].standing, plains[0].wide, plains[0].twins, plains[0].shorter);
+    printf("\n    where read says:");
+    for (int i = 0; i < BESIDES; i++) printf("  %s %" PRIu64, beside_names[i], by_beside[i]);
     printf("\nmoves of new entries:");
     for (int i = 0; i < 5; i++) printf("  %d: %" PRIu64, i, by_moves[i]);
     printf("\nmost visits: %" PRIu64 "\ncut calls that were not refused: %" PRIu64 "\n", most_visits, stopped_cuts);

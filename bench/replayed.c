@@ -117,10 +117,14 @@ static int fresh(const Word *words, size_t count) {
     return 1;
 }
 
-static int read_or_serve(const Word *words, size_t count, int serve) {
+enum { READ, SERVE, PLAIN };
+
+static int ask(const Word *words, size_t count, int how) {
     uint64_t n[3];
     if (!numbers_of(words, count, 3, n)) return 0;
-    BoughladderReading r = serve ? anchor_serve(TABLE, n[0], n[1], n[2]) : anchor_read(TABLE, n[0], n[1], n[2]);
+    BoughladderReading r = how == SERVE  ? anchor_serve(TABLE, n[0], n[1], n[2])
+                           : how == READ ? anchor_read(TABLE, n[0], n[1], n[2])
+                                         : anchor_plain_read(items, items_length, n[0], n[1], n[2]);
     if (tell_refusal(r.refusal)) return 1;
     if (r.kind == BOUGHLADDER_FRESH) {
         TELL("fresh");
@@ -239,14 +243,15 @@ static int cut(const Word *words, size_t count) {
 }
 
 static int answer(const Word *words, size_t count) {
-    if (is(words[0], "serve")) return read_or_serve(words + 1, count - 1, 1);
-    if (is(words[0], "read")) return read_or_serve(words + 1, count - 1, 0);
+    if (is(words[0], "serve")) return ask(words + 1, count - 1, SERVE);
+    if (is(words[0], "read")) return ask(words + 1, count - 1, READ);
     if (is(words[0], "cut")) return cut(words + 1, count - 1);
     if (is(words[0], "fresh")) return fresh(words + 1, count - 1);
     if (is(words[0], "list")) return list(words + 1, count - 1);
     if (is(words[0], "poke")) return poke(words + 1, count - 1);
     if (is(words[0], "dump")) return dump(words + 1, count - 1);
     if (is(words[0], "hand")) return set_hand(words + 1, count - 1);
+    if (is(words[0], "plain")) return ask(words + 1, count - 1, PLAIN);
     return write_call(words, count, NULL);
 }
 

@@ -197,3 +197,33 @@ uint32_t second_delete(const BoughladderTable *t, uint64_t animal) {
     t->counters[home.counter]++;
     return 0;
 }
+
+/* The item words of the first place with the number, or NULL: four places a turn, then those that are left. */
+static inline const uint64_t *first_with(const uint64_t *item, size_t places, uint64_t animal) {
+    for (; places >= 4; places -= 4, item += 16) {
+        if (item[0] == animal) return item;
+        if (item[4] == animal) return item + 4;
+        if (item[8] == animal) return item + 8;
+        if (item[12] == animal) return item + 12;
+    }
+    for (; places > 0; places--, item += 4)
+        if (item[0] == animal) return item;
+    return NULL;
+}
+
+BoughladderReading second_plain_read(const BoughladderTable *t, uint64_t animal, uint64_t limit, uint64_t now) {
+    BoughladderReading r = {0, 0, 0, 0};
+    size_t m = t->items_length / 4;
+    if (t->items_length % 4 != 0 || m < 1 || m > 4096) { r.refusal = 1; return r; }
+    if (animal == 0) { r.refusal = 2; return r; }
+    if (limit > 10080 || now == STANDING) { r.refusal = 3; return r; }
+    const uint64_t *item = first_with(t->items, m, animal);
+    if (item == NULL) { r.kind = BOUGHLADDER_ABSENT; return r; }
+    uint64_t stamp = item[2];
+    if (stamp != STANDING && stamp > now) { r.kind = BOUGHLADDER_AHEAD; return r; }
+    if (stamp != STANDING) r.age = now - stamp;
+    if (r.age > limit) { r.kind = BOUGHLADDER_OLD; return r; }
+    r.kind = BOUGHLADDER_FRESH;
+    r.permission = (uint32_t)item[1];
+    return r;
+}

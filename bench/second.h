@@ -1,5 +1,6 @@
 /*
- * second.h: another table by the order's rules in plain C, for the calls that a gate makes most: read, serve, set and delete.
+ * second.h: another table by the order's rules in plain C, for the calls that a gate makes most: read, serve, set and delete;
+ * and the auditor's plain read.
  * It takes the table as one struct, so that a call has few arguments. That and the replies have boughladder.h's types.
  */
 #ifndef SECOND_H
@@ -12,5 +13,6 @@ BoughladderReading second_serve(const BoughladderTable *table, uint64_t animal, 
 BoughladderSetting second_set(const BoughladderTable *table, uint64_t animal, uint32_t permission, uint64_t issued, uint64_t now,
                               uint32_t standing);
 uint32_t second_delete(const BoughladderTable *table, uint64_t animal);
+BoughladderReading second_plain_read(const BoughladderTable *table, uint64_t animal, uint64_t limit, uint64_t now);
 
 #endif

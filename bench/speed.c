@@ -14,16 +14,20 @@
 #include <string.h>
 
 #define BATCH 32
+#define PLAINS 500 /* so many of the READS questions: a walk takes far longer than a read */
 
 enum { OURS, ANCHOR, SECOND, TABLES };
 static Table tables[TABLES], *const ours = &tables[OURS], before;
 static uint64_t absent[M];
 static int rounds = 150;
 
-/* How each table is passed to its calls. */
+/* How each table is passed to its calls, and its items to the plain read. */
 #define boughladder_TABLE TABLE
 #define anchor_TABLE TABLE
 #define second_TABLE &second
+#define boughladder_ITEMS t->items, 4 * M
+#define anchor_ITEMS t->items, 4 * M
+#define second_ITEMS &second
 
 /* A portion of work gives the time of the calls that it is about; `from` is where its new animals begin. */
 typedef double Work(Table *t, size_t from);
@@ -31,19 +35,20 @@ typedef double Work(Table *t, size_t from);
     static double name(Table *t, size_t from) { \
         const BoughladderTable second = {TABLE}; \
         (void)second, (void)from;
-#define ASKS(who, works, call)                                                                              \
+#define ASKS(who, works, call, lent, count)                                                                 \
     WORK(who##_##works)                                                                                     \
         double start = now_ns();                                                                            \
-        for (size_t i = 0; i < READS; i++) {                                                                \
-            BoughladderReading r = who##_##call(who##_TABLE, asked[i], LIMIT, NOW);                         \
+        for (size_t i = 0; i < count; i++) {                                                                \
+            BoughladderReading r = who##_##call(lent, asked[i], LIMIT, NOW);                                \
             t->sum += r.kind + r.permission + r.age + r.refusal;                                            \
         }                                                                                                   \
-        return (now_ns() - start) / READS;                                                                  \
+        return (now_ns() - start) / count;                                                                  \
     }
 /* Once for each table: the calls are direct ones, as a user would write them. */
 #define WORKS(who)                                                                                          \
-    ASKS(who, reads, read)                                                                                  \
-    ASKS(who, serves, serve)                                                                                \
+    ASKS(who, reads, read, who##_TABLE, READS)                                                              \
+    ASKS(who, serves, serve, who##_TABLE, READS)                                                            \
+    ASKS(who, plains, plain_read, who##_ITEMS, PLAINS)                                                      \
     WORK(who##_updates) /* issued at or after the stamp that is held, so that none is late */               \
         double start = now_ns();                                                                            \
         for (size_t i = 0; i < herd; i++) {                                                                 \
@@ -103,6 +108,7 @@ MORE_WORKS(anchor)
 #define TWO(works) static Work *const works[TABLES] = {boughladder_##works, anchor_##works, NULL};
 ALL(reads)
 ALL(serves)
+ALL(plains)
 ALL(updates)
 ALL(new)
 ALL(gone)
@@ -183,6 +189,8 @@ int main(int argc, char **argv) {
         fill(loads[i]);
         time_all("serve, nine in ten held", loads[i], serves);
     }
+    fill(90);
+    time_all("plain read, nine in ten held", 90, plains);
     for (int i = 0; i < 5; i++) { /* sets and deletes are timed apart */
         Best come = none, go = none;
         fill(loads[i]);

@@ -4,7 +4,7 @@
     python3 samples/check.py [--echo] [FILE]      (no FILE, or -: standard input)
 
 It prints the answers that `./replay` must print, and ends with its status. It
-was written from the order, its change requests (wish 1 has landed) and
+was written from the order, its change requests (wishes 1 and 2 have landed) and
 docs/replay-format.md only, not from the Rattle code, so that the two can disagree.
 Every call first works out its answer and the list of its stores without
 touching the table; then the first k stores are made. So the cut form and the
@@ -138,6 +138,25 @@ class Table:
             return f'fresh {permission} {now - stamp}', recent
         return f'old {now - stamp}', []
 
+    def plain(self, animal, limit, now):
+        """The answer alone, from the item words alone: nothing is hashed or stored."""
+        if len(self.items) not in range(4, 16385, 4):
+            raise Refused(1)
+        if animal == 0:
+            raise Refused(2)
+        if limit > 10080 or now == TOP:
+            raise Refused(3)
+        for place in range(len(self.items) // 4):
+            number, permission, stamp, _ = self.items[4 * place:4 * place + 4]
+            if number == animal:             # the first, where there are twins
+                age = 0 if stamp == TOP else now - stamp
+                if age < 0:
+                    return 'ahead'
+                if age > limit:
+                    return f'old {age}'
+                return f'fresh {permission % 2**32} {age}'
+        return 'absent'
+
     def set(self, animal, permission, issued, now, standing):
         self.test_1_2_3_8_4(animal, issued=issued, now=now)
         stamp = TOP if standing else issued
@@ -252,9 +271,10 @@ class Table:
 # length of a buffer, any other word stands for itself.
 FORMS = [form.split() for form in (
     'fresh N N N', 'set N P N N', 'set N P N N standing', 'read N N N',
-    'serve N N N', 'delete N', 'evict', 'hand N', 'cut N set N P N N',
-    'cut N set N P N N standing', 'cut N delete N', 'cut N evict', 'list B',
-    'poke slots N N', 'poke counters N N', 'poke items N N', 'dump', '')]
+    'serve N N N', 'plain N N N', 'delete N', 'evict', 'hand N',
+    'cut N set N P N N', 'cut N set N P N N standing', 'cut N delete N',
+    'cut N evict', 'list B', 'poke slots N N', 'poke counters N N',
+    'poke items N N', 'dump', '')]
 MOST = {'N': TOP, 'P': 2**32 - 1, 'B': BUFFER_MAX}
 
 
@@ -320,6 +340,8 @@ class Replay:
             answer, stores = t.read(*rest, serve=name == 'serve')
             t.make(stores, 1)
             return answer
+        if name == 'plain':
+            return t.plain(*rest)
         if name == 'fresh':
             s, c, i = rest
             if s > SLOTS_MAX or c > COUNTERS_MAX or i > ITEMS_MAX \

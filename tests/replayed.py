@@ -6,6 +6,8 @@
                                            fresh random files: good lines, bad ones of every kind, odd line ends
 
 The status must be 2 if some line is not understood, else 0. A file on which they differ is kept in target/.
+And where plain and read ask the same, one right behind the other, their answers must be the same on a table that
+finished calls have made: that is told by the replay program's answers alone.
 """
 import pathlib
 import random
@@ -15,12 +17,32 @@ import sys
 
 TOP = pathlib.Path(__file__).resolve().parent.parent
 MARK = b'\xef\xbb\xbf'
-WORDS = b'fresh set read serve delete evict hand cut list poke dump slots counters items standing'.split()
+WORDS = b'fresh set read serve plain delete evict hand cut list poke dump slots counters items standing'.split()
+WHOLE = 1024 + 7  # the most stores that a call can have to make: an evict that clears every place of the largest table
+PAIRS = {True: [0, 0], False: [0, 0]}  # plain beside read, on tables of finished calls and on others: all, the unlike
 
 
 def run(command, data):
     done = subprocess.run(command, input=data, stdout=subprocess.PIPE, stderr=subprocess.PIPE)
     return done.stdout, done.returncode, done.stderr
+
+
+def unlike(echoed):
+    """Counts the pairs; of those on a table of finished calls the first with two answers, if there is one."""
+    clean, before = True, None
+    for line in re.findall(rb'^\d+: (.*) -> (.*)$', echoed, re.M):
+        call, answer = line[0].split(b' '), line[1]
+        if before and {before[0][0], call[0]} == {b'read', b'plain'} and before[0][1:] == call[1:]:
+            PAIRS[clean][0] += 1
+            PAIRS[clean][1] += before[1] != answer
+            if clean and before[1] != answer:
+                return 'read and plain differ: %r -> %r, and then %r' % (b' '.join(before[0]), before[1], answer)
+        if call[0] == b'fresh' and answer == b'fresh':
+            clean = True
+        elif answer == b'poked' or call[0] == b'cut' and int(call[1]) < WHOLE:
+            clean = False
+        before = call, answer
+    return None
 
 
 def compare(name, data, answers=None):
@@ -38,6 +60,8 @@ def compare(name, data, answers=None):
             wrong = 'status %d, check.py %d, expected %d' % (ours[1], second[1], status)
         elif ours[2]:
             wrong = 'said on standard error: %r' % ours[2][:200]
+        elif echo:
+            wrong = unlike(ours[0])
         if wrong:
             kept = TOP / 'target/difference.calls'
             kept.write_bytes(data)
@@ -59,6 +83,7 @@ class Day:
         self.pool = [self.r.choice([n + 1, self.r.getrandbits(64)]) for n in range(self.r.choice([6, 30, 90]))]
         self.now = self.r.choice([0, 100, 2**40])
         self.last, self.issues = self.pool[0], {}  # the animal of the last set; each animal's last minute of issue
+        self.again = None  # the second call of a pair
         # With cuts most calls are refused 8, so some days have pokes alone, to reach what comes after 8.
         self.cuts, self.pokes = self.r.choice([(False, False), (False, True), (True, True)])
         self.shape()
@@ -107,7 +132,8 @@ class Day:
         now = now if self.one_in(5) else max(issued, now)
         self.last = animal or self.last
         if issued <= now < 2**64 - 1:
-            self.issues[animal] = issued
+            self.issues.pop(animal, None)
+            self.issues[animal] = issued  # the last to be set stands last
         line = ['set', animal, self.r.choice([0, 1, 2, 3, 2**32 - 1]), issued, now]
         return line + ['standing'] * self.one_in(7)
 
@@ -116,12 +142,35 @@ class Day:
         kind = self.r.randrange(10)
         return self.set() if kind < 7 else ['delete', self.animal()] if kind < 8 else ['evict']
 
+    def lately(self):
+        """An animal that was set lately: she is often held."""
+        return self.r.choice(list(self.issues)[-8:] or self.pool)
+
+    def ask(self):
+        """A serve, or the first of a pair of read and plain: the next call asks the same of the other."""
+        animal, limit, now = self.animal(), self.limit(), self.minute()
+        if self.issues and not self.one_in(3):
+            animal = self.lately()
+            if self.one_in(2):  # about her first or her last fresh minute
+                edge = self.issues[animal] + self.r.choice([0, limit]) + self.r.choice([-1, 0, 1])
+                now = min(max(0, edge), 2**64 - 1)
+            elif self.one_in(12):
+                now = 2**64 - self.r.choice([1, 2])
+        if self.one_in(3):
+            return ['serve', animal, limit, now]
+        first, second = self.r.sample(['read', 'plain'], 2)
+        self.again = [second, animal, limit, now]
+        return [first, animal, limit, now]
+
     def call(self):
         r, kind = self.r, self.r.randrange(100)
+        if self.again:
+            again, self.again = self.again, None
+            return again
         if kind < 40:
             return self.write()
         if kind < 72:
-            return [r.choice(['read', 'serve']), self.animal(), self.limit(), self.minute()]
+            return self.ask()
         if kind < 78:
             return ['list', r.choice([0, 20 * self.m, 19, 81920, r.randrange(900)])]
         if kind < 81:
@@ -132,11 +181,13 @@ class Day:
             self.shape()
             return ['fresh', self.length(4 * self.n), self.length(self.v), self.length(4 * self.m)]
         if kind < 94:
-            return ['cut', r.choice([0, 1, 2, 3, 5, 7, 11, 30, self.number()]) if self.cuts else 100, *self.write()]
+            return ['cut', r.choice([0, 1, 2, 3, 5, 7, 11, 30, self.number()]) if self.cuts else WHOLE, *self.write()]
         if not self.pokes:
             return self.set()
         run = r.choice(['slots', 'slots', 'counters', 'items'])
         good = {'slots': 4 * self.n, 'counters': self.v, 'items': 4 * self.m}[run]
+        if run == 'items' and self.one_in(2):
+            return ['poke', run, 4 * r.randrange(self.m), self.lately()]  # a twin, if she is held
         return ['poke', run, r.randrange(good + 1), 0 if self.one_in(3) else self.number()]
 
     def digits(self, number):
@@ -217,11 +268,15 @@ def samples():
 def fresh_lines(seed, files, lines):
     edges = [b'', b'\n', b'\r', b'\r\n', b'#', b'd', b'dump', b'dump\r', b'\x00', MARK, MARK + b'\n', MARK + b'dump',
              MARK + MARK + b'dump', MARK[:1], MARK[:2] + b'dump', b'\n' + MARK + b'dump', b' ' + MARK + b'dump\n',
-             b'dump' + MARK]
+             b'dump' + MARK, b'plain 0 10081 1\nfresh 8 1 4\nplain 0 10081 1\ncut 1 plain 1 1 1']
     for n, data in enumerate(edges):
         compare('edge %d' % n, data)
     answers = sum(compare('seed %d file %d' % (seed, n), Day('%d %d' % (seed, n)).text(lines)) for n in range(files))
     print('seed %d: %d files of %d lines, %d lines of answers, no difference' % (seed, files, lines, answers))
+    print('plain and read of the same: %d on tables of finished calls, all alike; %d on others, %d of them unlike'
+          % (PAIRS[True][0], *PAIRS[False]))
+    if not PAIRS[True][0]:
+        sys.exit('too few lines: plain and read were never compared')
 
 
 if __name__ == '__main__':
