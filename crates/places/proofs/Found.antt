@@ -14,11 +14,11 @@ use Rattle.model.specs.Calls.{some-live, vacant-place}
 use Rattle.model.specs.WellFormed.{Live}
 use Rattle.model.proofs.ListLaws.{First, bool, first-is, found, in-range, missing, range-in, true-false}
 use Rattle.model.proofs.Clock.{Sought, always-victim, live-is, live-true, nobody, somebody, sought}
-use Rattle.places.specs.Walks.{scanned, vacancy}
+use Rattle.places.specs.Walks.{first-with, place-found, scanned}
 use Rattle.places.specs.declared.Scan.{Scan}
 use Rattle.places.specs.declared.Scan.the-variants.{Victim as Taken, Nobody}
-use Rattle.places.specs.declared.Vacancy.{Vacancy}
-use Rattle.places.specs.declared.Vacancy.the-variants.{At}
+use Rattle.places.specs.declared.Place.{Place}
+use Rattle.places.specs.declared.Place.the-variants.{At}
 
 -- a victim was found at no more than k places looked at
 abbrev AtMost : ℕ → Option Victim → Type 0
@@ -84,25 +84,21 @@ module _ (m : ℕ) (l : List ℕ) (hand : ℕ) {r : Scan} (e : scanned r ≡ vic
   pub scan-empty : hand < m → r ≡ Nobody → some-live m l ≡ false
   scan-empty h q = live-none m l hand h (scan-nobody q)
 
--- a vacant place that was found is one of m places and is vacant
-pub record VacantAt (m : ℕ) (l : List ℕ) (p : ℕ) : Type 0 where
+-- a place that was found is one of m places and has the number
+pub record PlaceAt (m : ℕ) (l : List ℕ) (x p : ℕ) : Type 0 where
   pub below : p < m
-  pub empty : animal l p ≡ 0
+  pub number : animal l p ≡ x
 
-pub vacant-within : (m : ℕ) (l : List ℕ) {p : ℕ} → vacant-place m l ≡ some p → VacantAt m l p
-unfolding vacant-place
-vacant-within m l {p} e = go (first-is (λ q. eqb (animal l q) 0) (range 0 m)) e
+pub place-within : (m : ℕ) (l : List ℕ) (x : ℕ) {p : ℕ} {r : Place} → place-found r ≡ first-with m l x → r ≡ At p → PlaceAt m l x p
+place-within m l x {p} e q = go (first-is (λ q. eqb (animal l q) x) (range 0 m)) (sym (rw q at e))
   where
-    go : {o : Option ℕ} → First (λ q. eqb (animal l q) 0) (range 0 m) o → o ≡ some p → VacantAt m l p
+    go : {o : Option ℕ} → First (λ q. eqb (animal l q) x) (range 0 m) o → o ≡ some p → PlaceAt m l x p
     go (found {i = i} q t) e =
         let f : i ≡ p = cc in
         let b = in-range 0 m q in
-        rw (← f) (record { below = omega arith; empty = eqb-true (animal l i) 0 t })
+        rw (← f) (record { below = omega arith; number = eqb-true (animal l i) x t })
     go (missing h) e = let z : _≡_ {A = ℕ} 0 1 = cc in absurd (omega arith)
 
-module _ (m : ℕ) (l : List ℕ) {r : Vacancy} (e : vacancy r ≡ vacant-place m l) where
-  pub vacancy-at : {p : ℕ} → r ≡ At p → vacant-place m l ≡ some p
-  vacancy-at q = sym (rw q at e)
-
-  pub vacancy-within : {p : ℕ} → r ≡ At p → VacantAt m l p
-  vacancy-within q = vacant-within m l (vacancy-at q)
+pub vacant-within : (m : ℕ) (l : List ℕ) {p : ℕ} {r : Place} → place-found r ≡ vacant-place m l → r ≡ At p → PlaceAt m l 0 p
+unfolding vacant-place
+vacant-within m l e q = place-within m l 0 e q

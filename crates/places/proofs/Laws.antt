@@ -4,21 +4,20 @@ use native.Mathlib.Nat.{add-zero, sub-zero, mul-add}
 use native.Mathlib.Omega.{arith}
 use native.Mathlib.Decide.{decLt}
 use mathlib.Core.Path.{_≡_, refl, sym, _∙_}
-use mathlib.Core.Logic.{dite}
+use mathlib.Core.Logic.{_≢_, dite}
 use mathlib.Core.Bool.{Bool, true, false, not, _&&_, _||_}
 use mathlib.Core.Option.{Option, none, some}
 use mathlib.Core.List.{List}
 use lib.ListN.{getD}
 use lib.Dec.{eqb, leb}
-use borrow.Author.Tests.{lt-ltb, le-ltb, eq-eqb, ne-eqb, not-false}
+use borrow.Author.Tests.{lt-ltb, le-ltb, eq-eqb, eqb-false, ne-eqb, not-false, not-true}
 use Rattle.model.specs.Choice.{choose, first, range}
-use Rattle.model.specs.Memory.{animal, live, recent}
+use Rattle.model.specs.Memory.{animal, recent}
 use Rattle.model.specs.Clock.{next-hand, seek-victim, takes, victim}
 use Rattle.model.specs.Calls.{vacant-place}
-use Rattle.model.proofs.Clock.{live-is}
-use Rattle.places.specs.Walks.{all-live, scanned, vacancy, vacant-from}
+use Rattle.places.specs.Walks.{first-from, first-with, none-with, place-found, scanned, without}
 use Rattle.places.specs.declared.Scan.the-variants.{Victim as Taken, Nobody}
-use Rattle.places.specs.declared.Vacancy.the-variants.{At, Full}
+use Rattle.places.specs.declared.Place.the-variants.{At, Nowhere}
 
 -- the hand one place on, or back at 0
 pub hand-on : (m h : ℕ) → h + 1 < m → h + 1 ≡ next-hand m h
@@ -83,61 +82,65 @@ module _ (f : ℕ → Bool) (m p : ℕ) where
   unfolding first range
   first-end h = let e : m - p ≡ 0 = omega arith in rw e
 
--- no place from p to q - 1 is vacant: the rest decides
-pub record NoneVacant (m : ℕ) (l : List ℕ) (p q : ℕ) : Type 0 where
-  pub same : vacant-from m l q ≡ vacant-from m l p
+-- no place from p to q - 1 has the number: the rest decides
+pub record NoneYet (m : ℕ) (l : List ℕ) (x p q : ℕ) : Type 0 where
+  pub same : first-from m l x q ≡ first-from m l x p
 
-pub none-vacant-yet : (m : ℕ) (l : List ℕ) (p : ℕ) → NoneVacant m l p p
-none-vacant-yet m l p = record { same = refl }
+pub none-yet : (m : ℕ) (l : List ℕ) (x p : ℕ) → NoneYet m l x p p
+none-yet m l x p = record { same = refl }
 
-abbrev vacant : List ℕ → ℕ → Bool
-vacant l q = eqb (animal l q) 0
+abbrev has : List ℕ → ℕ → ℕ → Bool
+has l x q = eqb (animal l q) x
 
-module _ {m p q : ℕ} {l : List ℕ} (s : NoneVacant m l p q) where
-  pub by-vacant : q < m → animal l q ≡ 0 → vacancy (At q) ≡ vacant-from m l p
-  by-vacant h a = sym (first-on (vacant l) m q h ∙ rw (eq-eqb (animal l q) 0 a)) ∙ s .same
+module _ {m x p q : ℕ} {l : List ℕ} (s : NoneYet m l x p q) where
+  pub by-found : q < m → animal l q ≡ x → place-found (At q) ≡ first-from m l x p
+  by-found h a = sym (first-on (has l x) m q h ∙ rw (eq-eqb (animal l q) x a)) ∙ s .same
 
-  pub by-live : q < m → (animal l q ≡ 0 → ⊥) → NoneVacant m l p (q + 1)
-  by-live h a = record { same = sym (first-on (vacant l) m q h ∙ rw (ne-eqb (animal l q) 0 a)) ∙ s .same }
+  pub by-other : q < m → animal l q ≢ x → NoneYet m l x p (q + 1)
+  by-other h a = record { same = sym (first-on (has l x) m q h ∙ rw (ne-eqb (animal l q) x a)) ∙ s .same }
 
-  pub by-none-vacant : m ≤ q → vacancy Full ≡ vacant-from m l p
-  by-none-vacant h = sym (first-end (vacant l) m q h) ∙ s .same
+  pub by-none : m ≤ q → place-found Nowhere ≡ first-from m l x p
+  by-none h = sym (first-end (has l x) m q h) ∙ s .same
 
 both-true : (a b : Bool) → (a && b) ≡ true → (a ≡ true) × (b ≡ true)
 both-true true b e = (refl, e)
 both-true false b e = let z : _≡_ {A = ℕ} 0 1 = cc in absurd (omega arith)
 
--- n live places are passed at once
-by-lives : (n : ℕ) {m p q : ℕ} {l : List ℕ} → NoneVacant m l p q → q + n ≤ m → all-live l q n ≡ true → NoneVacant m l p (q + n)
-unfolding all-live
-by-lives zero s h t = rw add-zero s
-by-lives (suc n) {m} {p} {q} {l} s h t =
-    let b = both-true (all-live l q n) (live l (q + n)) t in
+-- n places without the number are passed at once
+by-others : (n : ℕ) {m x p q : ℕ} {l : List ℕ} → NoneYet m l x p q → q + n ≤ m → none-with l x q n ≡ true → NoneYet m l x p (q + n)
+unfolding none-with
+by-others zero s h t = rw add-zero s
+by-others (suc n) {m} {x} {p} {q} {l} s h t =
+    let b = both-true (none-with l x q n) (without l x (q + n)) t in
     let e : q + suc n ≡ q + n + 1 = omega arith in
-    rw e (by-live (by-lives n s (omega arith) (b .0)) (omega arith) (live-is l (q + n) (b .1)))
+    rw e (by-other (by-others n s (omega arith) (b .0)) (omega arith) (eqb-false (animal l (q + n)) x (not-true (has l x (q + n)) (b .1))))
 
 -- a turn that passes sixteen places, eight and eight
-pub by-sixteen : {m p q : ℕ} {l : List ℕ} {a b : Bool} → NoneVacant m l p q → q + 16 ≤ m → a ≡ all-live l q 8 → b ≡ all-live l (q + 8) 8
-    → not (a && b) ≡ false → NoneVacant m l p (q + 16)
+pub by-sixteen : {m x p q : ℕ} {l : List ℕ} {a b : Bool} → NoneYet m l x p q → q + 16 ≤ m → a ≡ none-with l x q 8 → b ≡ none-with l x (q + 8) 8
+    → not (a && b) ≡ false → NoneYet m l x p (q + 16)
 by-sixteen {q = q} {a = a} {b = b} s h e f t =
     let t′ = both-true a b (not-false (a && b) t) in
     let g : q + 16 ≡ q + 8 + 8 = omega arith in
-    rw g (by-lives 8 (by-lives 8 s (omega arith) (sym e ∙ t′ .0)) (omega arith) (sym f ∙ t′ .1))
+    rw g (by-others 8 (by-others 8 s (omega arith) (sym e ∙ t′ .0)) (omega arith) (sym f ∙ t′ .1))
 
--- where no place so far is vacant, what is found in the rest is what is asked for
-pub by-rest : {m p : ℕ} {l : List ℕ} {o : Option ℕ} → NoneVacant m l 0 p → o ≡ vacant-from m l p → o ≡ vacant-place m l
-unfolding vacant-place
+-- where no place so far has it, what is found in the rest is what is asked for
+pub by-rest : {m x p : ℕ} {l : List ℕ} {o : Option ℕ} → NoneYet m l x 0 p → o ≡ first-from m l x p → o ≡ first-with m l x
 by-rest {m} s e = let f : m - 0 ≡ m = omega arith in e ∙ s .same ∙ rw f
 
--- the tests of eight places, as the code makes them: the animal words are four words apart
-abbrev has-animal : List ℕ → ℕ → Bool
-has-animal l i = not (eqb (getD l i 0) 0)
+-- the lowest vacant place is the first with number 0
+pub by-vacant : {m p : ℕ} {l : List ℕ} {o : Option ℕ} → NoneYet m l 0 0 p → o ≡ first-from m l 0 p → o ≡ vacant-place m l
+unfolding vacant-place
+by-vacant s e = by-rest s e
 
-pub eight-tests : (l : List ℕ) (p : ℕ)
-    → (has-animal l (4 * p) && has-animal l (4 * p + 4) && has-animal l (4 * p + 8) && has-animal l (4 * p + 12)
-    && has-animal l (4 * p + 16) && has-animal l (4 * p + 20) && has-animal l (4 * p + 24) && has-animal l (4 * p + 28))
-    ≡ all-live l p 8
-unfolding all-live
-eight-tests l p =
+-- the tests of eight places, as the code makes them: the animal words are four words apart
+abbrev other-at : List ℕ → ℕ → ℕ → Bool
+other-at l x i = not (eqb (getD l i 0) x)
+
+pub eight-tests : (l : List ℕ) (x p : ℕ)
+    → (other-at l x (4 * p) && other-at l x (4 * p + 4) && other-at l x (4 * p + 8) && other-at l x (4 * p + 12)
+    && other-at l x (4 * p + 16) && other-at l x (4 * p + 20) && other-at l x (4 * p + 24) && other-at l x (4 * p + 28))
+    ≡ none-with l x p 8
+unfolding none-with
+eight-tests l x p =
     let at : (k : ℕ) → 4 * (p + k) ≡ 4 * p + 4 * k = λ k. mul-add 4 p k in
     rw (at 0, at 1, at 2, at 3, at 4, at 5, at 6, at 7, add-zero)

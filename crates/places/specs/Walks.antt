@@ -1,32 +1,38 @@
 -- What the code's answers say, in the words of the definitions, and the parts of a walk over the places. Assumes nothing.
 use Prim.Native.Nat.{ℕ, _+_, suc, _-_, zero}
-use mathlib.Core.Bool.{Bool, true, _&&_}
+use mathlib.Core.Bool.{Bool, true, not, _&&_}
 use mathlib.Core.Option.{Option, none, some}
 use mathlib.Core.List.{List}
 use lib.Dec.{eqb}
 use Rattle.model.specs.Choice.{first, range}
-use Rattle.model.specs.Memory.{animal, live}
+use Rattle.model.specs.Memory.{animal}
 use Rattle.model.specs.Clock.{Victim}
 use Rattle.places.specs.declared.Scan.{Scan}
 use Rattle.places.specs.declared.Scan.the-variants.{Victim as Taken, Nobody}
-use Rattle.places.specs.declared.Vacancy.{Vacancy}
-use Rattle.places.specs.declared.Vacancy.the-variants.{At, Full}
+use Rattle.places.specs.declared.Place.{Place}
+use Rattle.places.specs.declared.Place.the-variants.{At, Nowhere}
 
 -- the victim that the code found
 abbrev pub scanned : Scan → Option Victim
 scanned (Taken p n) = some (record { place = p; looked = n })
 scanned Nobody = none
 
--- the vacant place that the code found
-abbrev pub vacancy : Vacancy → Option ℕ
-vacancy (At p) = some p
-vacancy Full = none
+-- the place that the code found
+abbrev pub place-found : Place → Option ℕ
+place-found (At p) = some p
+place-found Nowhere = none
 
--- the n places from p on are all live
-unfoldable pub all-live : List ℕ → ℕ → ℕ → Bool
-all-live l p zero = true
-all-live l p (suc n) = all-live l p n && live l (p + n)
+-- place q has another number than x; none of the n places from p on has x
+abbrev pub without : List ℕ → ℕ → ℕ → Bool
+without l x q = not (eqb (animal l q) x)
 
--- the lowest vacant one of the places p to m - 1
-abbrev pub vacant-from : ℕ → List ℕ → ℕ → Option ℕ
-vacant-from m l p = first (λ q. eqb (animal l q) 0) (range p (m - p))
+unfoldable pub none-with : List ℕ → ℕ → ℕ → ℕ → Bool
+none-with l x p zero = true
+none-with l x p (suc n) = none-with l x p n && without l x (p + n)
+
+-- the first of the places p to m - 1 that has the number x; and of all m places
+abbrev pub first-from : ℕ → List ℕ → ℕ → ℕ → Option ℕ
+first-from m l x p = first (λ q. eqb (animal l q) x) (range p (m - p))
+
+abbrev pub first-with : ℕ → List ℕ → ℕ → Option ℕ
+first-with m l x = first (λ q. eqb (animal l q) x) (range 0 m)

@@ -1,10 +1,10 @@
-// Walks over the item words, four to a place: the clock hand and its victim, the lowest vacant place.
+// Walks over the item words, four to a place: the clock hand and its victim, the first place with a number, the lowest vacant one.
 ghost use mathlib.Core.Path.{_≡_};
 ghost use Prim.Native.Nat.{_+_, _*_, _<_, _≤_};
 ghost use lib.ListN.{length};
 ghost use Rattle.model.specs.Clock.{next-hand, victim};
 ghost use Rattle.model.specs.Calls.{vacant-place};
-ghost use Rattle.places.specs.Walks.{scanned, vacancy, all-live, vacant-from};
+ghost use Rattle.places.specs.Walks.{scanned, place-found, none-with, first-from, first-with};
 
 // The clock hand, by value.
 pub struct Hand {
@@ -57,56 +57,73 @@ pub fn find_victim(items: &[u64], m: usize, hand: Hand) -> Scan
     Scan::Nobody
 }
 
-// The lowest vacant place; or none is vacant.
-pub enum Vacancy {
+// A place that was looked for.
+pub enum Place {
     At(usize),
-    Full,
+    Nowhere,
 }
 
-// The eight places from p on are live, as one expression: the compiler does not unroll a loop that may stop at any place.
-fn eight_live(items: &[u64], p: usize) -> bool
+// None of the eight places from p on has the number, as one expression: the compiler does not unroll a loop that may stop at any place.
+fn eight_without(items: &[u64], p: usize, x: u64) -> bool
     requires { ⌜ 4 * p + 32 ≤ length (now items) ⌝ }
-    ensures { λ r. ⌜ r ≡ all-live (now (items .entry)) p 8 ⌝ }
+    ensures { λ r. ⌜ r ≡ none-with (now (items .entry)) x p 8 ⌝ }
 {
     let at = 4 * p;
-    (items[at] != 0)
-        & (items[at + 4] != 0)
-        & (items[at + 8] != 0)
-        & (items[at + 12] != 0)
-        & (items[at + 16] != 0)
-        & (items[at + 20] != 0)
-        & (items[at + 24] != 0)
-        & (items[at + 28] != 0)
+    (items[at] != x)
+        & (items[at + 4] != x)
+        & (items[at + 8] != x)
+        & (items[at + 12] != x)
+        & (items[at + 16] != x)
+        & (items[at + 20] != x)
+        & (items[at + 24] != x)
+        & (items[at + 28] != x)
 }
 
-// The lowest vacant one of the places from p on, place by place.
-fn vacant_from(items: &[u64], m: usize, p: usize) -> Vacancy
+// The first of the places from p on that has the number, place by place.
+fn place_from(items: &[u64], m: usize, p: usize, x: u64) -> Place
     requires { ⌜ (m ≤ 4096) × (length (now items) ≡ 4 * m) ⌝ }
-    ensures { λ r. ⌜ vacancy r ≡ vacant-from m (now (items .entry)) p ⌝ }
+    ensures { λ r. ⌜ place-found r ≡ first-from m (now (items .entry)) x p ⌝ }
 {
     let mut q = p;
     while q < m {
-        if items[4 * q] == 0 {
-            return Vacancy::At(q);
+        if items[4 * q] == x {
+            return Place::At(q);
         }
         q += 1;
     }
-    Vacancy::Full
+    Place::Nowhere
 }
 
-// The lowest vacant one of m places: sixteen a turn, and place by place where one of them is vacant or fewer are left.
-pub fn vacant_place(items: &[u64], m: usize) -> Vacancy
+// The first of m places that has the number: sixteen a turn, and place by place where one of them has it or fewer are left.
+pub fn place_of(items: &[u64], m: usize, x: u64) -> Place
     requires { ⌜ (m ≤ 4096) × (length (now items) ≡ 4 * m) ⌝ }
-    ensures { λ r. ⌜ vacancy r ≡ vacant-place m (now (items .entry)) ⌝ }
+    ensures { λ r. ⌜ place-found r ≡ first-with m (now (items .entry)) x ⌝ }
 {
     let mut p: usize = 0;
     while p + 16 <= m {
-        let near = eight_live(items, p);
-        let far = eight_live(items, p + 8);
+        let near = eight_without(items, p, x);
+        let far = eight_without(items, p + 8, x);
         if !(near & far) {
-            return vacant_from(items, m, p);
+            return place_from(items, m, p, x);
         }
         p += 16;
     }
-    vacant_from(items, m, p)
+    place_from(items, m, p, x)
+}
+
+// The lowest vacant one of m places: its number is 0. The same walk once more, for set alone: with two callers place_of stays a call.
+pub fn vacant_place(items: &[u64], m: usize) -> Place
+    requires { ⌜ (m ≤ 4096) × (length (now items) ≡ 4 * m) ⌝ }
+    ensures { λ r. ⌜ place-found r ≡ vacant-place m (now (items .entry)) ⌝ }
+{
+    let mut p: usize = 0;
+    while p + 16 <= m {
+        let near = eight_without(items, p, 0);
+        let far = eight_without(items, p + 8, 0);
+        if !(near & far) {
+            return place_from(items, m, p, 0);
+        }
+        p += 16;
+    }
+    place_from(items, m, p, 0)
 }

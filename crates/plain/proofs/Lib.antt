@@ -1,7 +1,7 @@
 -- Where the definition says another thing than the wish, it shows here first
 pub mod AsWritten
--- The code's walk
-pub mod Walking
+-- The code
+pub mod Reading
 pub mod Decides
 -- What is owed
 pub mod Says

@@ -1,13 +1,14 @@
 // The plain engine: a reader for the auditor that knows no hashing. It walks the places in order and answers from the item words alone.
 ghost use mathlib.Core.Path.{_≡_};
-ghost use Prim.Native.Nat.{_/_};
+ghost use Prim.Native.Nat.{_+_, _*_, _≤_};
 ghost use lib.ListN.{length};
+ghost use Rattle.model.specs.Memory.{permission, stamp};
 ghost use Rattle.model.specs.Shape.{good-items};
-ghost use Rattle.model.specs.Age.{judge};
-ghost use Rattle.model.specs.Row.{walk-to};
+ghost use Rattle.model.specs.Age.{verdict};
 ghost use Rattle.model.specs.Said.{said-reading};
 ghost use Rattle.plain.specs.Plain.{plain-read};
 use model::Reading;
+use places::Place;
 
 // The items are whole places, 1 to 4,096 of them.
 fn is_good_length(words: usize) -> bool
@@ -16,23 +17,15 @@ fn is_good_length(words: usize) -> bool
     (words % 4 == 0) & ((4 <= words) & (words <= 16384))
 }
 
-// Place after place, to the first with that number.
-fn walk(items: &[u64], animal: u64, limit: u64, minute: u64) -> Reading
-    ensures { λ r. ⌜ said-reading r
-        ≡ judge (now (items .entry)) limit minute (walk-to (now (items .entry)) animal (length (now (items .entry)) / 4) 0) ⌝ }
+// A place is judged as read judges its hit.
+fn judged_at(items: &[u64], p: usize, limit: u64, minute: u64) -> Reading
+    requires { ⌜ 4 * p + 4 ≤ length (now items) ⌝ }
+    ensures { λ r. ⌜ said-reading r ≡ verdict limit minute (permission (now (items .entry)) p) (stamp (now (items .entry)) p) ⌝ }
 {
-    let places = items.len() / 4;
-    let mut p: usize = 0;
-    while p < places {
-        if items[4 * p] == animal {
-            return ageing::judged(items[4 * p + 1], items[4 * p + 2], limit, minute);
-        }
-        p += 1;
-    }
-    Reading::Absent
+    ageing::judged(items[4 * p + 1], items[4 * p + 2], limit, minute)
 }
 
-// What the items say of an animal.
+// What the items say of an animal, at the first place with its number.
 pub fn read(items: &[u64], animal: u64, limit: u64, minute: u64) -> Reading
     ensures { λ r. ⌜ said-reading r ≡ plain-read (now (items .entry)) animal limit minute ⌝ }
 {
@@ -45,5 +38,9 @@ pub fn read(items: &[u64], animal: u64, limit: u64, minute: u64) -> Reading
     if ageing::is_bad_time(limit, minute) {
         return Reading::Refused(3);
     }
-    walk(items, animal, limit, minute)
+    let found = places::place_of(items, items.len() / 4, animal);
+    match found {
+        Place::At(p) => judged_at(items, p, limit, minute),
+        Place::Nowhere => Reading::Absent,
+    }
 }

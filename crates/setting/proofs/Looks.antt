@@ -14,8 +14,8 @@ use Rattle.model.specs.Moves.{as-moves}
 use Rattle.model.specs.Calls.{Outcome, enter-at, entered, moves-found, refuse, stopped, vacant-place, visited}
 use Rattle.model.proofs.Hash.{size-most}
 use Rattle.model.proofs.Lent.{fit, law}
-use Rattle.places.specs.Walks.{vacancy}
-use Rattle.places.proofs.Found.{vacancy-within}
+use Rattle.places.specs.Walks.{place-found}
+use Rattle.places.proofs.Found.{vacant-within}
 use Rattle.searching.specs.Search.{Asked, FoundIs}
 use Rattle.searching.proofs.Endings.{RoomFound, damaged-found, nowhere-found, room-found}
 use Rattle.searching.proofs.Inside.{sources-in}
@@ -25,8 +25,8 @@ use Rattle.model.specs.declared.Grant.{Grant}
 use Rattle.hashing.specs.declared.Homes.{Homes}
 use Rattle.paths.specs.declared.Found.{Found}
 use Rattle.paths.specs.declared.Ending.the-variants as ending
-use Rattle.places.specs.declared.Vacancy.{Vacancy}
-use Rattle.places.specs.declared.Vacancy.the-variants as vacant
+use Rattle.places.specs.declared.Place.{Place}
+use Rattle.places.specs.declared.Place.the-variants as place
 use Rattle.setting.specs.declared.Entering.{Entering}
 use Rattle.setting.specs.declared.Entering.the-variants as entry
 use Rattle.setting.specs.declared.Room.{Room}
@@ -49,12 +49,12 @@ module _ (W : Ways) (m : Mem) (x : ℕ) {h : Homes} (a : Homed W m x h) where
   places-are = let f = fit W m (a .right) in (f .few, f .items-fit)
 
 -- a vacant place fits 32 bits
-pub vacant-fits : {W : Ways} {m : Mem} {x : ℕ} {h : Homes} → Homed W m x h → {y : Vacancy} → vacancy y ≡ vacant-place (length (m .items) / 4) (m .items)
-    → {p : ℕ} → y ≡ vacant.At p → p < 2 ^ 32
-vacant-fits {W} {m} a v e = omega (arith, vacancy-within (length (m .items) / 4) (m .items) v e .below, fit W m (a .right) .few)
+pub vacant-fits : {W : Ways} {m : Mem} {x : ℕ} {h : Homes} → Homed W m x h → {y : Place} → place-found y ≡ vacant-place (length (m .items) / 4) (m .items)
+    → {p : ℕ} → y ≡ place.At p → p < 2 ^ 32
+vacant-fits {W} {m} a v e = omega (arith, vacant-within (length (m .items) / 4) (m .items) v e .below, fit W m (a .right) .few)
 
-module _ (W : Ways) (m : Mem) (g : Grant) {h : Homes} (a : Homed W m (g .animal) h) (y : Vacancy)
-    (v : vacancy y ≡ vacant-place (length (m .items) / 4) (m .items)) where
+module _ (W : Ways) (m : Mem) (g : Grant) {h : Homes} (a : Homed W m (g .animal) h) (y : Place)
+    (v : place-found y ≡ vacant-place (length (m .items) / 4) (m .items)) where
   abbrev Y : Shape
   Y = shape-of W m
 
@@ -70,17 +70,17 @@ module _ (W : Ways) (m : Mem) (g : Grant) {h : Homes} (a : Homed W m (g .animal)
   refuses : {n visits : ℕ} → entry.Refused n ≡ entry.Enters visits → ⊥
   refuses q = let z : _≡_ {A = ℕ} 0 1 = cc in absurd (omega arith)
 
-  low : (p : ℕ) → y ≡ vacant.At p → p < 65536
-  low p e = omega (arith, vacancy-within (length (m .items) / 4) (m .items) v e .below, fit W m (a .right) .few)
+  low : (p : ℕ) → y ≡ place.At p → p < 65536
+  low p e = omega (arith, vacant-within (length (m .items) / 4) (m .items) v e .below, fit W m (a .right) .few)
 
   -- no place is vacant
-  pub room-full : y ≡ vacant.Full → (f : Found) → RoomIs W m g h (room (entry.Refused 5) 0 f)
-  room-full e f = record { comes = ap (enter-at Y m g) (sym (ap vacancy e) ∙ v); able = λ s l z. able 0 (omega arith) s (λ v n. absurd (refuses n)) }
+  pub room-full : y ≡ place.Nowhere → (f : Found) → RoomIs W m g h (room (entry.Refused 5) 0 f)
+  room-full e f = record { comes = ap (enter-at Y m g) (sym (ap place-found e) ∙ v); able = λ s l z. able 0 (omega arith) s (λ v n. absurd (refuses n)) }
 
   -- place p is, and r is what the search from there found
-  module _ {p : ℕ} (e : y ≡ vacant.At p) {r : Found} (f : FoundIs W (length (m .slots) / W .ways) (length (m .items) / 4) (m .slots) (h .first) (h .second) r) where
+  module _ {p : ℕ} (e : y ≡ place.At p) {r : Found} (f : FoundIs W (length (m .slots) / W .ways) (length (m .items) / 4) (m .slots) (h .first) (h .second) r) where
     into : {o : Outcome} → o ≡ enter-at Y m g (some p) → o ≡ entering-new W m g
-    into q = q ∙ ap (enter-at Y m g) (sym (ap vacancy e) ∙ v)
+    into q = q ∙ ap (enter-at Y m g) (sym (ap place-found e) ∙ v)
 
     own : FoundIs W (length (m .slots) / W .ways) (length (m .items) / 4) (m .slots) (Y .first-of (g .animal)) (second-of Y (g .animal)) r
     own =

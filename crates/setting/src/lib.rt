@@ -19,7 +19,7 @@ use model::Grant;
 use model::Setting;
 use paths::Ending;
 use paths::Found;
-use places::Vacancy;
+use places::Place;
 
 // What set of an absent animal is to do: refuse, or enter it into the vacant place behind the moves that were found.
 pub enum Entering {
@@ -40,9 +40,9 @@ fn room_for(slots: &[u32], counters: &[u32], items: &[u64], g: Grant, homes: Hom
 {
     let m = items.len() / 4;
     let n = (slots.len() / 4) as u32;
-    let vacancy = places::vacant_place(items, m);
-    match vacancy {
-        Vacancy::Full => {
+    let vacant = places::vacant_place(items, m);
+    match vacant {
+        Place::Nowhere => {
             let found = paths::nothing(Ending::Nowhere);
             Room {
                 told: Entering::Refused(5),
@@ -50,7 +50,7 @@ fn room_for(slots: &[u32], counters: &[u32], items: &[u64], g: Grant, homes: Hom
                 found,
             }
         }
-        Vacancy::At(p) => {
+        Place::At(p) => {
             let found = searching::search(slots, n, m as u32, homes.first, homes.second);
             let ending = found.ending;
             let place = p as u32;
