@@ -1,40 +1,30 @@
 -- On any lent memory: fresh is said only of a place that holds the animal, in time. Assumes nothing.
-use Prim.Native.Nat.{ℕ, _%_, _^_, _-_, _<_, _*_}
-use native.Mathlib.Nat.{mod-lt, mod-mod}
-use native.Mathlib.Omega.{arith}
-use mathlib.Core.Path.{_≡_, refl, sym, ap, _∙_}
+use Prim.Native.Nat.{ℕ, _%_, _^_, _*_}
+use mathlib.Core.Path.{_≡_, refl, sym, _∙_}
 use mathlib.Core.Logic.{_≢_, ⊎-elim, _⊎_}
 use mathlib.Core.Bool.{Bool, true, false}
 use mathlib.Core.Option.{Option}
 use mathlib.Core.List.{List}
-use lib.Dec.{eqb, ltb}
+use lib.Dec.{eqb}
 use borrow.Author.Tests.{eqb-false}
 use Rattle.model.specs.Choice.{choose}
 use Rattle.model.specs.Memory.{Mem, animal, permission, place, stamp, tag, word}
 use Rattle.model.specs.Shape.{Shape, Ways, homes, right-lengths, shape-of, four}
-use Rattle.model.specs.Answers.{absent, ahead, fresh, old, refused}
+use Rattle.model.specs.Answers.{absent, fresh, refused}
 use Rattle.model.specs.Calling.{read, serve}
-use Rattle.model.specs.Age.{age, bad-time, is-fresh, judge, verdict}
+use Rattle.model.specs.Age.{bad-time, judge, verdict}
 use Rattle.model.specs.Calls.{busy, call, held, hit, hits, home-damage, place-at, refuse, tell}
 use Rattle.model.specs.Demands.{FreshAnywhere, Holds}
 use Rattle.model.specs.Ours.{gate, ours}
 use Rattle.model.proofs.ListLaws.{First, both-is, first-is, found, missing, inside-held}
-use Rattle.model.proofs.RowWords.{says-is}
+use Rattle.model.proofs.RowWords.{says-mod}
 use Rattle.model.proofs.Runs.{in-time, not-fresh, serve-reads}
-
--- what is said of a permission is said of it modulo 2^32
-verdict-mod : (limit now u s : ℕ) → verdict limit now (u % 2 ^ 32) s ≡ verdict limit now u s
-unfolding verdict
-verdict-mod limit now u s = ap (λ z. choose (is-fresh limit now s) (fresh z (age now s)) (choose (ltb now s) ahead (old (now - s)))) (mod-mod u (2 ^ 32))
 
 -- a place with the number, of which fresh is said
 pub held-in-time : (l : List ℕ) (x limit now v a p : ℕ) → x ≢ 0 → animal l p ≡ x → verdict limit now (permission l p) (stamp l p) ≡ fresh v a
     → Holds l x limit now v p
 held-in-time l x limit now v a p nz here e =
-    let u = permission l p in
-    let s = stamp l p in
-    let small : u % 2 ^ 32 < 2 ^ 32 = mod-lt u (omega arith) in
-    let j = in-time l x limit now v a (u % 2 ^ 32) s (sym (says-is limit now (u % 2 ^ 32) s small) ∙ verdict-mod limit now u s ∙ e) in
+    let j = in-time l x limit now v a (permission l p % 2 ^ 32) (stamp l p) (sym (says-mod limit now (permission l p) (stamp l p)) ∙ e) in
     record { real = nz; inside = inside-held l (4 * p) (rw here nz); animal-is = here; permission-is = j .0; in-time = j .1 }
 
 module _ (Y : Shape) (m : Mem) (x limit now v a : ℕ) where

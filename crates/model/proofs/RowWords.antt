@@ -1,6 +1,6 @@
 -- The row is written apart from the table; here its own words are shown to say the same. Assumes nothing.
 use Prim.Native.Nat.{ℕ, _+_, _^_, _<_, suc, _≤_, _-_, _%_, _/_, zero}
-use native.Mathlib.Nat.{zero-add, mod-eq-of-lt, pow-suc, div-one, div-div-eq-div-mul}
+use native.Mathlib.Nat.{zero-add, mod-eq-of-lt, mod-lt, mod-mod, pow-suc, div-one, div-div-eq-div-mul}
 use native.Mathlib.Omega.{arith}
 use native.Mathlib.Decide.{ℕ-discrete, decLt, decLe}
 use mathlib.Core.Path.{_≡_, refl, sym, ap, _∙_, ap₂}
@@ -31,6 +31,14 @@ says-is limit now v s h =
     (λ k. rw (ne-eqb s standing-mark ne, le-leb s now le, le-ltb now s le, le-leb (now - s) limit k, le-ltb limit (now - s) k, mod-eq-of-lt h))
     λ k. let lt : limit < now - s = omega arith in
     rw (ne-eqb s standing-mark ne, le-leb s now le, le-ltb now s le, lt-leb (now - s) limit lt, lt-ltb limit (now - s) lt)
+
+-- a permission word above its range is judged modulo 2^32
+pub says-mod : (limit now v s : ℕ) → verdict limit now v s ≡ row-says limit now (v % 2 ^ 32) s
+unfolding verdict
+says-mod limit now v s = sym same ∙ says-is limit now (v % 2 ^ 32) s (mod-lt v (omega arith))
+  where
+    same : verdict limit now (v % 2 ^ 32) s ≡ verdict limit now v s
+    same = ap (λ z. choose (is-fresh limit now s) (fresh z (age now s)) (choose (ltb now s) ahead (old (now - s)))) (mod-mod v (2 ^ 32))
 
 fresh-told : (b : Bool) (v a : ℕ) (c : Bool) (n : ℕ) → says-fresh (choose b (fresh v a) (choose c ahead (old n))) ≡ b
 fresh-told true v a c n = refl

@@ -1,5 +1,5 @@
 -- The plain engine, a law a way out, in the code's own words. Assumes nothing.
-use Prim.Native.Nat.{ℕ, _+_, _*_, _/_, _%_, _<_, _≤_}
+use Prim.Native.Nat.{ℕ, _+_, _*_, _/_, _%_, _≤_}
 use native.Mathlib.Omega.{arith}
 use mathlib.Core.Path.{_≡_, sym, ap, _∙_}
 use mathlib.Core.Logic.{_≢_}
@@ -12,7 +12,6 @@ use Rattle.model.specs.Memory.{permission, stamp}
 use Rattle.model.specs.Shape.{good-items}
 use Rattle.model.specs.Answers.{absent, refused}
 use Rattle.model.specs.Age.{bad-time, judge, verdict}
-use Rattle.model.specs.Row.{walk-to}
 use Rattle.model.specs.Said.{said-reading}
 use Rattle.model.proofs.ListLaws.{walk-first}
 use Rattle.model.proofs.Lent.{and-is}

@@ -9,7 +9,7 @@ use Rattle.model.specs.Memory.{Mem}
 use Rattle.model.specs.Shape.{Ways, eight, four, good-counters, good-items, good-lengths, good-slots, right-lengths, shape-of}
 use Rattle.model.specs.Answers.{Answer, refused}
 use Rattle.model.specs.Age.{bad-time, judge}
-use Rattle.model.specs.Calling.{did, read}
+use Rattle.model.specs.Calling.{read}
 use Rattle.model.specs.Calls.{reading, refuse, tell}
 use Rattle.model.specs.Row.{walk-to}
 use Rattle.model.specs.WellFormed.{WellFormed}

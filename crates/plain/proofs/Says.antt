@@ -1,7 +1,7 @@
 -- On any items: the refusals in their turn, then the first place with that number. Assumes nothing.
 use Prim.Native.Nat.{ℕ, zero, suc, _+_, _/_, _<_, _≤_}
 use native.Mathlib.Omega.{arith}
-use native.Mathlib.Decide.{ℕ-discrete, decLe}
+use native.Mathlib.Decide.{ℕ-discrete}
 use mathlib.Core.Path.{_≡_, refl, sym, ap, _∙_}
 use mathlib.Core.Logic.{_≢_, dite}
 use mathlib.Core.Bool.{Bool, true, false, _||_}
@@ -11,18 +11,19 @@ use lib.ListN.{length}
 use lib.Dec.{eqb, ltb}
 use borrow.Author.Tests.{eq-eqb, eqb-false, eqb-true, ne-eqb, le-ltb, lt-ltb}
 use Rattle.model.specs.Choice.{choose, first, one-of, range}
-use Rattle.model.specs.Memory.{animal}
+use Rattle.model.specs.Memory.{animal, permission, stamp}
 use Rattle.model.specs.Shape.{good-items}
 use Rattle.model.specs.Answers.{Answer, absent, fresh, paper, refused}
 use Rattle.model.specs.Age.{bad-time, judge, no-minute}
 use Rattle.model.specs.Row.{walk-to}
 use Rattle.model.specs.Demands.{Holds}
-use Rattle.model.proofs.ListLaws.{First, bool, found, in-range, missing, true-false, walk-is}
+use Rattle.model.proofs.ListLaws.{First, found, in-range, missing, true-false, walk-is}
 use Rattle.model.proofs.Demand1.{is-refusal, judged, small-number}
+use Rattle.model.proofs.RowWords.{says-mod}
 use Rattle.model.proofs.Runs.{not-fresh}
 use Rattle.model.proofs.FreshAnywhere.{held-in-time}
 use Rattle.plain.specs.Plain.{plain-read}
-use Rattle.plain.specs.Owed.{Answered, FirstWith, PlainFresh, PlainSays}
+use Rattle.plain.specs.Owed.{Answered, PlainFresh, PlainSays}
 
 -- a walk over n places from s on comes to the first place with the number
 to-first : (l : List ℕ) (x p n s : ℕ) → s ≤ p → p < s + n → animal l p ≡ x → ((q : ℕ) → q < p → animal l q ≢ x) → walk-to l x n s ≡ some p
@@ -82,7 +83,8 @@ module _ (l : List ℕ) (x limit now : ℕ) where
         three-limit = λ g nz h. three g nz (rw (lt-ltb 10080 limit h));
         three-now = λ g nz e. three g nz (no-time e);
         no-other = λ n e. only-three n (good-items (length l)) (eqb x 0) (bad-time limit now) (sym (by-tests refl refl refl) ∙ e);
-        first = λ a p f. walked a (to-first l x p (length l / 4) 0 (omega arith) (omega (arith, f .inside)) (f .number) (f .lowest));
+        first = λ a p f.
+            walked a (to-first l x p (length l / 4) 0 (omega arith) (omega (arith, f .inside)) (f .number) (f .lowest)) ∙ says-mod limit now (permission l p) (stamp l p);
         nowhere = λ a h. walked a (to-nowhere l x (length l / 4) h);
       }
     where

@@ -1,8 +1,8 @@
 -- What is owed of the plain engine: the wish's rule on any items, that it agrees with read, and, beyond the wish, why else the two
 -- differ and what fresh means. Assumes nothing.
-use Prim.Native.Nat.{ℕ, _/_, _<_, _≤_}
+use Prim.Native.Nat.{ℕ, _/_, _%_, _^_, _<_, _≤_}
 use mathlib.Core.Path.{_≡_}
-use mathlib.Core.Logic.{_≢_, _↔_, _⊎_}
+use mathlib.Core.Logic.{_≢_, _⊎_}
 use mathlib.Core.Bool.{true, false}
 use mathlib.Core.List.{List, [], _∷_}
 use lib.ListN.{length}
@@ -10,9 +10,10 @@ use Rattle.model.specs.Choice.{one-of}
 use Rattle.model.specs.Memory.{Mem, animal, permission, stamp}
 use Rattle.model.specs.Shape.{Ways, good-items, right-lengths, shape-of}
 use Rattle.model.specs.Answers.{Answer, absent, fresh, refused}
-use Rattle.model.specs.Age.{no-minute, verdict}
+use Rattle.model.specs.Age.{no-minute}
 use Rattle.model.specs.Calling.{read}
 use Rattle.model.specs.Lent.{lent-call}
+use Rattle.model.specs.Row.{row-says}
 use Rattle.model.specs.WellFormed.{WellFormed}
 use Rattle.model.specs.AnyTable.{Table}
 use Rattle.model.specs.Demands.{Holds, Story, reads, table}
@@ -43,8 +44,8 @@ module _ (l : List ℕ) (x limit now : ℕ) where
     pub three-limit : good-items (length l) ≡ true → x ≢ 0 → 10080 < limit → said ≡ refused 3
     pub three-now : good-items (length l) ≡ true → x ≢ 0 → now ≡ no-minute → said ≡ refused 3
     pub no-other : (n : ℕ) → said ≡ refused n → one-of n (1 ∷ 2 ∷ 3 ∷ []) ≡ true
-    -- else the first place with that number is judged, its permission modulo 2^32; with no such place it is absent
-    pub first : Answered → (p : ℕ) → FirstWith l x p → said ≡ verdict limit now (permission l p) (stamp l p)
+    -- else the first place with that number is judged as a row of places judges, its permission modulo 2^32; with no such place it is absent
+    pub first : Answered → (p : ℕ) → FirstWith l x p → said ≡ row-says limit now (permission l p % 2 ^ 32) (stamp l p)
     pub nowhere : Answered → ((p : ℕ) → p < length l / 4 → animal l p ≢ x) → said ≡ absent
 
   -- fresh is said only if some place holds that number, standing or in time, with that permission modulo 2^32
