@@ -19,7 +19,7 @@ permission-told a = choose (is 1 a) (value a 1) 0
 abbrev pub age-told : Answer → ℕ
 age-told a = choose (is 1 a) (value a 2) (choose (is 2 a) (value a 1) 0)
 
--- read and serve
+-- read, serve and the plain engine
 abbrev pub reading-clothes : Answer → BoughladderReading
 reading-clothes a = record { refusal = number a; kind = value a 0; permission = permission-told a; age = age-told a }
 

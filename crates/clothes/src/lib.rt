@@ -14,7 +14,7 @@ use model::Starting;
 
 // The replies. In each, `refusal` is document 01's number, 0 for success; what a call does not tell is 0.
 
-// Read and serve, in two registers. The kind is 0 absent, 1 fresh, 2 old, 3 ahead.
+// Read, serve and the plain engine, in two registers. The kind is 0 absent, 1 fresh, 2 old, 3 ahead.
 #[repr(C)]
 pub struct BoughladderReading {
     pub refusal: u16,

@@ -228,7 +228,7 @@ abbrev pub rub : List ℕ → List ℕ → List ℕ
 rub l [] = l
 rub l (p ∷ ps) = rub (set l (4 * p + 3) 0) ps
 
-or-true : (b : Bool) → (b || true) ≡ true
+pub or-true : (b : Bool) → (b || true) ≡ true
 or-true true = refl
 or-true false = refl
 

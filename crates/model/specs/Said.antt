@@ -19,7 +19,7 @@ use Rattle.model.specs.declared.Listing.the-variants as list
 use Rattle.model.specs.declared.Starting.{Starting}
 use Rattle.model.specs.declared.Starting.the-variants as starting
 
--- read and serve
+-- read, serve and the plain engine
 abbrev pub said-reading : Reading → Answer
 said-reading reading.Absent = absent
 said-reading (reading.Fresh v a) = fresh v a

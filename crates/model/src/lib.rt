@@ -17,7 +17,7 @@ pub struct MoveRecord {
     pub to: usize,
 }
 
-// Read and serve.
+// Read, serve and the plain engine.
 pub enum Reading {
     Absent,
     Fresh { permission: u32, age: u64 },

@@ -84,21 +84,14 @@ module _ (m : ℕ) (l : List ℕ) (hand : ℕ) {r : Scan} (e : scanned r ≡ vic
   pub scan-empty : hand < m → r ≡ Nobody → some-live m l ≡ false
   scan-empty h q = live-none m l hand h (scan-nobody q)
 
--- a place that was found is one of m places and has the number
-pub record PlaceAt (m : ℕ) (l : List ℕ) (x p : ℕ) : Type 0 where
-  pub below : p < m
-  pub number : animal l p ≡ x
-
-pub place-within : (m : ℕ) (l : List ℕ) (x : ℕ) {p : ℕ} {r : Place} → place-found r ≡ first-with m l x → r ≡ At p → PlaceAt m l x p
+-- a place that was found is one of m places
+pub place-within : (m : ℕ) (l : List ℕ) (x : ℕ) {p : ℕ} {r : Place} → place-found r ≡ first-with m l x → r ≡ At p → p < m
 place-within m l x {p} e q = go (first-is (λ q. eqb (animal l q) x) (range 0 m)) (sym (rw q at e))
   where
-    go : {o : Option ℕ} → First (λ q. eqb (animal l q) x) (range 0 m) o → o ≡ some p → PlaceAt m l x p
-    go (found {i = i} q t) e =
-        let f : i ≡ p = cc in
-        let b = in-range 0 m q in
-        rw (← f) (record { below = omega arith; number = eqb-true (animal l i) x t })
+    go : {o : Option ℕ} → First (λ q. eqb (animal l q) x) (range 0 m) o → o ≡ some p → p < m
+    go (found {i = i} q t) e = let f : i ≡ p = cc in omega (arith, in-range 0 m q)
     go (missing h) e = let z : _≡_ {A = ℕ} 0 1 = cc in absurd (omega arith)
 
-pub vacant-within : (m : ℕ) (l : List ℕ) {p : ℕ} {r : Place} → place-found r ≡ vacant-place m l → r ≡ At p → PlaceAt m l 0 p
+pub vacant-within : (m : ℕ) (l : List ℕ) {p : ℕ} {r : Place} → place-found r ≡ vacant-place m l → r ≡ At p → p < m
 unfolding vacant-place
 vacant-within m l e q = place-within m l 0 e q

@@ -15,6 +15,7 @@ use Rattle.model.specs.Choice.{choose, first, range}
 use Rattle.model.specs.Memory.{animal, recent}
 use Rattle.model.specs.Clock.{next-hand, seek-victim, takes, victim}
 use Rattle.model.specs.Calls.{vacant-place}
+use Rattle.model.proofs.Lent.{and-is}
 use Rattle.places.specs.Walks.{first-from, first-with, none-with, place-found, scanned, without}
 use Rattle.places.specs.declared.Scan.the-variants.{Victim as Taken, Nobody}
 use Rattle.places.specs.declared.Place.the-variants.{At, Nowhere}
@@ -102,16 +103,12 @@ module _ {m x p q : ℕ} {l : List ℕ} (s : NoneYet m l x p q) where
   pub by-none : m ≤ q → place-found Nowhere ≡ first-from m l x p
   by-none h = sym (first-end (has l x) m q h) ∙ s .same
 
-both-true : (a b : Bool) → (a && b) ≡ true → (a ≡ true) × (b ≡ true)
-both-true true b e = (refl, e)
-both-true false b e = let z : _≡_ {A = ℕ} 0 1 = cc in absurd (omega arith)
-
 -- n places without the number are passed at once
 by-others : (n : ℕ) {m x p q : ℕ} {l : List ℕ} → NoneYet m l x p q → q + n ≤ m → none-with l x q n ≡ true → NoneYet m l x p (q + n)
 unfolding none-with
 by-others zero s h t = rw add-zero s
 by-others (suc n) {m} {x} {p} {q} {l} s h t =
-    let b = both-true (none-with l x q n) (without l x (q + n)) t in
+    let b = and-is (none-with l x q n) (without l x (q + n)) t in
     let e : q + suc n ≡ q + n + 1 = omega arith in
     rw e (by-other (by-others n s (omega arith) (b .0)) (omega arith) (eqb-false (animal l (q + n)) x (not-true (has l x (q + n)) (b .1))))
 
@@ -119,7 +116,7 @@ by-others (suc n) {m} {x} {p} {q} {l} s h t =
 pub by-sixteen : {m x p q : ℕ} {l : List ℕ} {a b : Bool} → NoneYet m l x p q → q + 16 ≤ m → a ≡ none-with l x q 8 → b ≡ none-with l x (q + 8) 8
     → not (a && b) ≡ false → NoneYet m l x p (q + 16)
 by-sixteen {q = q} {a = a} {b = b} s h e f t =
-    let t′ = both-true a b (not-false (a && b) t) in
+    let t′ = and-is a b (not-false (a && b) t) in
     let g : q + 16 ≡ q + 8 + 8 = omega arith in
     rw g (by-others 8 (by-others 8 s (omega arith) (sym e ∙ t′ .0)) (omega arith) (sym f ∙ t′ .1))
 

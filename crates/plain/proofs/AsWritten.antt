@@ -16,6 +16,6 @@ use Rattle.plain.specs.Examples.{plain-examples, side-by-side}
 pub all-hold : AllHold plain-examples × AllHold side-by-side
 unfolding plain-read walk-to good-items verdict is-fresh age hash fnv fnv-step bytes tag-from odd-up spread other-bucket tag place damaged range first good-lengths good-slots good-counters hits hit
 all-hold = (
-  (refl, (refl, (refl, (refl, (refl, (refl, (refl, (refl, (refl, (refl, (refl, (refl, (refl, (refl, (refl, (refl, (refl, (refl, tt)))))))))))))))))),
+  (refl, (refl, (refl, (refl, (refl, (refl, (refl, (refl, (refl, (refl, (refl, (refl, (refl, (refl, (refl, (refl, (refl, (refl, (refl, tt))))))))))))))))))),
   (refl, (refl, (refl, (refl, (refl, (refl, (refl, tt))))))),
 )

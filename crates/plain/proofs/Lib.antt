@@ -7,3 +7,4 @@ pub mod Decides
 pub mod Says
 pub mod SameAsRead
 pub mod WhyApart
+pub mod Theorems

@@ -39,7 +39,7 @@ module _ (i : ℕ) {g : Bool} (e : g ≡ good-items i) (n : not g ≡ false) whe
 
 -- the words of the place that was found
 pub words-there : (l : List ℕ) (x : ℕ) {p : ℕ} {r : Place} → place-found r ≡ first-with (length l / 4) l x → r ≡ place.At p → 4 * p + 4 ≤ length l
-words-there l x e q = omega (arith, place-within (length l / 4) l x e q .below)
+words-there l x e q = omega (arith, place-within (length l / 4) l x e q)
 
 -- the refusals in their turn, then the place
 module _ (l : List ℕ) (x limit now : ℕ) {g : Bool} (long : g ≡ good-items (length l)) where

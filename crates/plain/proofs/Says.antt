@@ -4,7 +4,7 @@ use native.Mathlib.Omega.{arith}
 use native.Mathlib.Decide.{ℕ-discrete}
 use mathlib.Core.Path.{_≡_, refl, sym, ap, _∙_}
 use mathlib.Core.Logic.{_≢_, dite}
-use mathlib.Core.Bool.{Bool, true, false, _||_}
+use mathlib.Core.Bool.{Bool, true, false}
 use mathlib.Core.Option.{Option, none, some}
 use mathlib.Core.List.{List, [], _∷_}
 use lib.ListN.{length}
@@ -18,6 +18,7 @@ use Rattle.model.specs.Age.{bad-time, judge, no-minute}
 use Rattle.model.specs.Row.{walk-to}
 use Rattle.model.specs.Demands.{Holds}
 use Rattle.model.proofs.ListLaws.{First, found, in-range, missing, true-false, walk-is}
+use Rattle.model.proofs.Clock.{or-true}
 use Rattle.model.proofs.Demand1.{is-refusal, judged, small-number}
 use Rattle.model.proofs.RowWords.{says-mod}
 use Rattle.model.proofs.Runs.{not-fresh}
@@ -41,10 +42,6 @@ to-nowhere l x n h = go (walk-is l x n 0)
     go (found {i = p} q t) = absurd (h p (omega (arith, in-range 0 n q)) (eqb-true (animal l p) x t))
     go (missing _) = refl
 
-or-true : (b : Bool) → (b || true) ≡ true
-or-true true = refl
-or-true false = refl
-
 module _ (l : List ℕ) (x limit now : ℕ) where
   -- what is said, by the three tests and the walk
   abbrev pub by : Bool → Bool → Bool → Option ℕ → Answer
@@ -66,8 +63,8 @@ module _ (l : List ℕ) (x limit now : ℕ) where
   -- none of them is due
   walked : {o : Option ℕ} → Answered l x limit now → place ≡ o → said ≡ judge l limit now o
   walked a e =
-      let good : bad-time limit now ≡ false = rw (le-ltb 10080 limit (a .short), ne-eqb now no-minute (a .timely)) in
-      by-tests (a .long) (ne-eqb x 0 (a .real)) good ∙ ap (judge l limit now) e
+      let good : bad-time limit now ≡ false = rw (le-ltb 10080 limit (a .within), ne-eqb now no-minute (a .timely)) in
+      by-tests (a .sized) (ne-eqb x 0 (a .real)) good ∙ ap (judge l limit now) e
 
   only-three : (n : ℕ) (g z b : Bool) → by g z b place ≡ refused n → one-of n (1 ∷ 2 ∷ 3 ∷ []) ≡ true
   only-three n false z b e = let q : 1 ≡ n = cc in rw (← q)

@@ -35,9 +35,10 @@ plain-examples =
     ∷ record { says = plain-numbers four-places 6 720 300; document = 0 ∷ 0 ∷ [] }
     -- a permission of 2^32 + 5 is told as 5
     ∷ record { says = plain-numbers (1 ∷ 4294967301 ∷ 100 ∷ 1 ∷ []) 1 720 100; document = 0 ∷ 1 ∷ 5 ∷ 0 ∷ [] }
-    -- 1 comes before 2 and 3; 4,096 places are good, 4,097 are not, nor are none or a half
+    -- 1 comes before 2 and 3; 4,096 places are good, 4,097 are not, nor are none, a half, or one and a half
     ∷ record { says = plain-numbers [] 0 10081 no-minute; document = 1 ∷ [] }
     ∷ record { says = plain-numbers (1 ∷ 5 ∷ []) 1 720 100; document = 1 ∷ [] }
+    ∷ record { says = plain-numbers (one-place ++ (2 ∷ 7 ∷ [])) 1 720 100; document = 1 ∷ [] }
     ∷ record { says = plain-numbers (replicate 16388 0) 0 720 100; document = 1 ∷ [] }
     ∷ record { says = plain-numbers (replicate 16384 0) 0 720 100; document = 2 ∷ [] }
     -- 2 comes before 3, and where a place is vacant

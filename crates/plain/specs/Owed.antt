@@ -8,7 +8,7 @@ use mathlib.Core.List.{List, [], _∷_}
 use lib.ListN.{length}
 use Rattle.model.specs.Choice.{one-of}
 use Rattle.model.specs.Memory.{Mem, animal, permission, stamp}
-use Rattle.model.specs.Shape.{Ways, good-items, right-lengths, shape-of}
+use Rattle.model.specs.Shape.{Ways, eight, four, good-items, right-lengths, shape-of}
 use Rattle.model.specs.Answers.{Answer, absent, fresh, refused}
 use Rattle.model.specs.Age.{no-minute}
 use Rattle.model.specs.Calling.{read}
@@ -17,7 +17,10 @@ use Rattle.model.specs.Row.{row-says}
 use Rattle.model.specs.WellFormed.{WellFormed}
 use Rattle.model.specs.AnyTable.{Table}
 use Rattle.model.specs.Demands.{Holds, Story, reads, table}
+use Rattle.model.specs.Ours.{gate, ours}
+use Rattle.model.specs.Examples.{AllHold}
 use Rattle.plain.specs.Plain.{plain-read}
+use Rattle.plain.specs.Examples.{plain-examples, side-by-side}
 
 -- in the items l, place p is the first with number x
 pub record FirstWith (l : List ℕ) (x p : ℕ) : Type 0 where
@@ -31,9 +34,9 @@ module _ (l : List ℕ) (x limit now : ℕ) where
 
   -- 1, 2 and 3 are not due
   pub record Answered : Type 0 where
-    pub long : good-items (length l) ≡ true
+    pub sized : good-items (length l) ≡ true
     pub real : x ≢ 0
-    pub short : limit ≤ 10080
+    pub within : limit ≤ 10080
     pub timely : now ≢ no-minute
 
   -- On any items its answer is fixed by its own walk
@@ -66,14 +69,28 @@ module _ (W : Ways) where
     abbrev pub read-says : Answer
     read-says = lent-call W m (read x limit now) .answer
 
-    -- why the two may differ, on any memory
+    -- why the two may differ
     pub data Apart : Type 0 where
-      -- read refuses: busy, damaged, or the slots or the counters have a wrong length
-      refuses : {n : ℕ} → read-says ≡ refused n → one-of n (1 ∷ 8 ∷ 4 ∷ []) ≡ true → Apart
-      -- a place has the number, and no home slot leads to one
-      unreached : {p : ℕ} → p < length (m .items) / 4 → animal (m .items) p ≡ x → read-says ≡ absent → Apart
-      -- two places have the number
-      twins : {p q : ℕ} → p < q → q < length (m .items) / 4 → animal (m .items) p ≡ x → animal (m .items) q ≡ x → Apart
+      -- the items have a good length, and read refuses: busy, damaged, or for the length of the slots or the counters
+      refuses : {n : ℕ} → good-items (length (m .items)) ≡ true → read-says ≡ refused n → one-of n (1 ∷ 8 ∷ 4 ∷ []) ≡ true → Apart
+      -- a place has the animal's number, and read has no hit
+      unreached : {p : ℕ} → x ≢ 0 → p < length (m .items) / 4 → animal (m .items) p ≡ x → read-says ≡ absent → Apart
+      -- two places have it
+      twins : {p q : ℕ} → x ≢ 0 → p < q → q < length (m .items) / 4 → animal (m .items) p ≡ x → animal (m .items) q ≡ x → Apart
 
+    -- on any memory they say the same, or there is such a reason
     abbrev pub AgreesOrApart : Type 0
     AgreesOrApart = (plain-read (m .items) x limit now ≡ read-says) ⊎ Apart
+
+-- every statement that is owed; proofs/Theorems has them all
+pub record Owed : Type 0 where
+  pub says : (l : List ℕ) (x limit now : ℕ) → PlainSays l x limit now
+  pub agrees-on : (W : Ways) (m : Mem) → AgreesOn W m
+  pub agrees : (W : Ways) → PlainAgrees W (ours W)
+  pub gate-agrees : PlainAgrees four gate
+  pub eight-agrees : PlainAgrees eight (ours eight)
+  -- beyond the wish
+  pub agrees-or-apart : (W : Ways) (m : Mem) (x limit now : ℕ) → AgreesOrApart W m x limit now
+  pub fresh-anywhere : (l : List ℕ) (x limit now : ℕ) → PlainFresh l x limit now
+  -- the rows at the wish's edges
+  pub all-hold : AllHold plain-examples × AllHold side-by-side

@@ -51,7 +51,7 @@ module _ (W : Ways) (m : Mem) (x : ℕ) {h : Homes} (a : Homed W m x h) where
 -- a vacant place fits 32 bits
 pub vacant-fits : {W : Ways} {m : Mem} {x : ℕ} {h : Homes} → Homed W m x h → {y : Place} → place-found y ≡ vacant-place (length (m .items) / 4) (m .items)
     → {p : ℕ} → y ≡ place.At p → p < 2 ^ 32
-vacant-fits {W} {m} a v e = omega (arith, vacant-within (length (m .items) / 4) (m .items) v e .below, fit W m (a .right) .few)
+vacant-fits {W} {m} a v e = omega (arith, vacant-within (length (m .items) / 4) (m .items) v e, fit W m (a .right) .few)
 
 module _ (W : Ways) (m : Mem) (g : Grant) {h : Homes} (a : Homed W m (g .animal) h) (y : Place)
     (v : place-found y ≡ vacant-place (length (m .items) / 4) (m .items)) where
@@ -71,7 +71,7 @@ module _ (W : Ways) (m : Mem) (g : Grant) {h : Homes} (a : Homed W m (g .animal)
   refuses q = let z : _≡_ {A = ℕ} 0 1 = cc in absurd (omega arith)
 
   low : (p : ℕ) → y ≡ place.At p → p < 65536
-  low p e = omega (arith, vacant-within (length (m .items) / 4) (m .items) v e .below, fit W m (a .right) .few)
+  low p e = omega (arith, vacant-within (length (m .items) / 4) (m .items) v e, fit W m (a .right) .few)
 
   -- no place is vacant
   pub room-full : y ≡ place.Nowhere → (f : Found) → RoomIs W m g h (room (entry.Refused 5) 0 f)
