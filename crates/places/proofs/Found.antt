@@ -6,7 +6,6 @@ use mathlib.Core.Bool.{true, false}
 use mathlib.Core.Option.{Option, none, some}
 use mathlib.Core.List.{List}
 use lib.Dec.{eqb, leb}
-use borrow.Author.Tests.{eqb-true}
 use Rattle.model.specs.Choice.{choose, range, there}
 use Rattle.model.specs.Memory.{animal, is-recent, live}
 use Rattle.model.specs.Clock.{Victim, next-hand, seek-victim, takes, victim}

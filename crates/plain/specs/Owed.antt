@@ -61,7 +61,7 @@ module _ (W : Ways) where
   AgreesOn m = right-lengths W m ≡ true → WellFormed (shape-of W m) m → (x limit now : ℕ)
       → plain-read (m .items) x limit now ≡ lent-call W m (read x limit now) .answer
 
-  -- so it does on every memory made by finished calls from fresh, of any table
+  -- of a table: on every memory that its finished calls make from fresh it says what the table's read says
   abbrev pub PlainAgrees : Table → Type 0
   PlainAgrees T = (s : Story W) (x limit now : ℕ) → plain-read (table W T s .items) x limit now ≡ reads W T (table W T s) x limit now
 
