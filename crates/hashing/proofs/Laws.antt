@@ -1,5 +1,5 @@
 -- Laws that the proofs of the hashing functions cite. Assumes nothing.
-use Prim.Native.Nat.{ℕ, _+_, _*_, _^_, _<_, suc, _≤_, _-_, _%_, _/_, min}
+use Prim.Native.Nat.{ℕ, _+_, _*_, _^_, _<_, _-_, _%_, _/_, min}
 use native.Mathlib.Nat.{le-of-lt, lt-of-le-of-lt, mul-le-mul-left, mul-lt-mul-of-pos-right, mod-lt}
 use native.Mathlib.Omega.{arith}
 use mathlib.Core.Path.{subst⁻¹, _≡_, ap, _∙_}
@@ -7,7 +7,7 @@ use lib.Arith.{digits-mod, mod-mul}
 use lib.Pow.{pow-pos, pow-add}
 use Rattle.model.specs.Choice.{first}
 use Rattle.model.specs.Memory.{tag}
-use Rattle.model.specs.Hash.{Size, bytes, fnv, fnv-step, hash, other-bucket, tag-from}
+use Rattle.model.specs.Hash.{Size, hash, other-bucket, tag-from}
 use Rattle.model.specs.AnyTable.{counter}
 use Rattle.model.proofs.Hash.{size-most, size-pos}
 use Rattle.model.proofs.ListLaws.{first-is}
@@ -18,15 +18,6 @@ pub product-fits : (k : ℕ) {a b : ℕ} → a < 2 ^ k → b < 2 ^ k → a * b <
 product-fits k {a} {b} ha hb =
     subst⁻¹ (λ (n : ℕ). a * b < n) (pow-add 2 k k)
     (lt-of-le-of-lt (mul-le-mul-left a (le-of-lt hb)) (mul-lt-mul-of-pos-right ha (pow-pos k)))
-
--- one byte taken off the front
-pub one-byte : (h x i : ℕ) → i < 8 → fnv h (bytes (8 - i) x) ≡ fnv (fnv-step h (x % 256)) (bytes (8 - (i + 1)) (x / 256))
-unfolding fnv bytes
-one-byte h x i l = let e : 8 - i ≡ suc (8 - (i + 1)) = omega arith in rw e
-
-pub no-byte : (h x i : ℕ) → 8 ≤ i → fnv h (bytes (8 - i) x) ≡ h
-unfolding fnv bytes
-no-byte h x i l = let e : 8 - i ≡ 0 = omega arith in rw e
 
 -- the remainder by a number of buckets is the same before and after one by 2^32
 pub low-of-low : {n : ℕ} → Size n → (x : ℕ) → x % 2 ^ 32 % n ≡ x % n

@@ -19,19 +19,25 @@ pub fn fnv_byte(h: u32, b: u8) -> u32
     mul_mod_2_32(h ^ (b as u32), 16777619)
 }
 
-// FNV-1a over the eight bytes of an animal number, lowest first.
+// FNV-1a over the eight bytes of an animal number, lowest first. Each step waits for the one before; but a byte of 0 only multiplies by the prime, so four or two of them on top are one product, by its power modulo 2^32.
 pub fn hash_of(animal: u64) -> u32
     ensures { λ r. ⌜ r ≡ hash animal ⌝ }
 {
-    let mut h: u32 = 2166136261;
-    let mut rest = animal;
-    let mut i: usize = 0;
-    while i < 8 {
-        h = fnv_byte(h, (rest % 256) as u8);
-        rest = rest / 256;
-        i += 1;
+    let h1 = fnv_byte(2166136261, (animal % 256) as u8);
+    let h2 = fnv_byte(h1, (animal / 256 % 256) as u8);
+    let h3 = fnv_byte(h2, (animal / 65536 % 256) as u8);
+    let h4 = fnv_byte(h3, (animal / 16777216 % 256) as u8);
+    let upper = animal / 4294967296;
+    if upper == 0 {
+        return mul_mod_2_32(h4, 1345077009);
     }
-    h
+    let h5 = fnv_byte(h4, (upper % 256) as u8);
+    let h6 = fnv_byte(h5, (upper / 256 % 256) as u8);
+    if upper < 65536 {
+        return mul_mod_2_32(h6, 637696617);
+    }
+    let h7 = fnv_byte(h6, (upper / 65536 % 256) as u8);
+    fnv_byte(h7, (upper / 16777216 % 256) as u8)
 }
 
 // The tag of a hash.
