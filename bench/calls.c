@@ -106,11 +106,20 @@ static void number(uint64_t value) {
 }
 
 /* The lengths of the runs, a factor that scatters the animals, the animal of the last set and its minute of issue. */
-static uint64_t slots = 16, counters = 4, items = 20, odd = 1, last = 1, last_issued = 500;
+static uint64_t slots = 16, counters = 4, items = 20, factor = 1, last = 1, last_issued = 500;
 static enum { WHOLE, CUT, POKED } mood;
 
-static uint64_t an_animal(void) { return one_in(5) ? last : (1 + below(items / 2 + 2)) * odd; }
+static uint64_t an_animal(void) { return one_in(5) ? last : (1 + below(items / 2 + 2)) * factor; }
 static uint64_t a_minute(void) { return 500 + below(1000); }
+
+/* 1; about a power of 256, for numbers at the edges and with bytes of 0; or of any length in bytes. For a hash may take
+   short numbers, or bytes of 0, another way. */
+static uint64_t a_factor(void) {
+    uint64_t kind = below(4), shift = 8 * below(8);
+    if (kind == 0) return 1;
+    if (kind == 1) return (UINT64_C(256) << shift) - 1 + below(shift < 56 ? 3 : 1);
+    return any() >> shift | 1;
+}
 
 static void fresh(void) {
     static const uint64_t strange[] = {0, 3, 4, 5, 12, 1023, 1024, 1025, 4096, 4100, 8192, 8196, 16384, 32768};
@@ -123,7 +132,7 @@ static void fresh(void) {
     slots = large ? 8192 : UINT64_C(8) << below(3);
     counters = large ? 1024 : 1 + below(8);
     items = large ? 4096 : 4 * (1 + below(slots));
-    odd = one_in(2) ? 1 : any() | 1;
+    factor = a_factor();
     mood = below(3);
     number(slots), number(counters), number(items);
 }

@@ -21,11 +21,15 @@ static Table ours, theirs, others;
 #define anchor_ITEMS t->items, 4 * M
 #define second_ITEMS &second
 
-/* Not inlined, so that callgrind tells each kind of work by its name. */
-#define WORK(name)                                           \
-    __attribute__((noinline)) static void name(Table *t) {   \
-        const BoughladderTable second = {TABLE};             \
+/* Neither inlined nor joined with its like, so that callgrind tells each kind of work by its name. */
+#define WORK(name)                                                 \
+    __attribute__((noinline, no_icf)) static void name(Table *t) { \
+        const BoughladderTable second = {TABLE};                   \
         (void)second;
+#define KIND(who, works) /* reads of held animals, by the kind of their numbers */                                      \
+    WORK(who##_##works)                                                                                                 \
+        for (size_t i = 0; i < CALLS; i++) t->sum += who##_read(who##_TABLE, held[i], LIMIT, NOW).kind;                 \
+    }
 #define WORKS(who)                                                                                                      \
     WORK(who##_reads)                                                                                                   \
         for (size_t i = 0; i < CALLS; i++)                                                                              \
@@ -45,6 +49,9 @@ static Table ours, theirs, others;
     WORK(who##_deletes)                                                                                                 \
         for (size_t i = 0; i < CALLS; i++) t->sum += who##_delete(who##_TABLE, held[i]);                                \
     }                                                                                                                   \
+    KIND(who, eights)                                                                                                   \
+    KIND(who, tags)                                                                                                     \
+    KIND(who, smalls)                                                                                                   \
     WORK(who##_new) /* into the places that the deletes left, each the lowest vacant one */                             \
         for (size_t i = 0; i < CALLS; i++) t->sum += who##_set(who##_TABLE, held[i], 1, NOW, NOW, 0).visits;            \
     }
@@ -65,23 +72,37 @@ EVICTS(anchor)
 
 #define ALL(works) boughladder_##works(&ours), anchor_##works(&theirs), second_##works(&others)
 
-int main(void) {
+static void fill(uint64_t (*number)(void)) {
     Table *t = &ours;
-    while (herd < M * 9 / 10) {
-        uint64_t animal = any();
+    memset(t, 0, sizeof *t);
+    for (herd = 0; herd < M * 9 / 10;) {
+        uint64_t animal = number();
         if (boughladder_set(TABLE, animal, 1, NOW - any() % 1000, NOW, 0).refusal == 0) held[herd++] = animal;
     }
     theirs = others = ours;
+}
+
+static int differ(const Table *a, const Table *b) { return memcmp(a, b, sizeof *a) != 0; }
+
+int main(void) {
+    fill(ear_tag);
+    ALL(tags);
+    int different = differ(&ours, &theirs) || differ(&ours, &others);
+    fill(small);
+    ALL(smalls);
+    different |= differ(&ours, &theirs) || differ(&ours, &others);
+    fill(any);
+    ALL(eights);
     ALL(reads);
     ALL(serves);
     ALL(plains);
     ALL(updates);
     ALL(deletes);
     ALL(new);
-    int same = memcmp(&ours, &others, sizeof ours) == 0;
+    different |= differ(&ours, &others);
     for (size_t p = 0; p < M; p++) ours.items[4 * p + 3] = theirs.items[4 * p + 3] = 0;
     boughladder_evicts(&ours), anchor_evicts(&theirs);
-    if (!same || memcmp(&ours, &theirs, sizeof ours) != 0) {
+    if (different || differ(&ours, &theirs)) {
         puts("DIFFERENCE between the tables");
         return 1;
     }

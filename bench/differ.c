@@ -10,6 +10,8 @@
  *     cut      as clean, and some calls are cut after a random number k of stores
  *     poked    as cut, and now and then one random word is overwritten by a random one
  *     garbage  all three runs hold random words from the start
+ * The numbers of a herd are scattered, or of one length in bytes, or of every length; those of a length have edges and bytes
+ * of 0 among them. For a hash may take short numbers, or bytes of 0, another way.
  *
  * Behind each call come plain reads of our memory, before its words are compared, so that a word that they write shows:
  *     clean    where finished calls from fresh have made the table, in an episode of any kind: of the call's animal, of 0,
@@ -81,7 +83,7 @@ static size_t n, v, m, pool_size, used; /* used: 64-bit words of the block in us
 static uint64_t state, seed = 1, percent = 100;
 static uint64_t calls, words, by_call[CALLS], by_refusal[12], by_moves[5], by_load[11], by_kind[KINDS], by_answer[4];
 static uint64_t by_meeting[MEETINGS], most_visits, large_calls, stopped_cuts, issued_later, asked_after, bytes;
-static uint64_t by_beside[BESIDES];
+static uint64_t by_beside[BESIDES], by_bytes[CALLS][9][2]; /* by the bytes of the number: all, those held or stored */
 static int clean; /* whether finished calls from fresh have made the table, all with the lengths that fresh got */
 static Plains plains[2]; /* by clean */
 
@@ -94,6 +96,41 @@ static uint64_t any(void) { /* splitmix64 */
 
 static uint64_t below(uint64_t bound) { return any() % bound; }
 static int one_in(uint64_t count) { return below(count) == 0; }
+static unsigned a_length(void) { return 1 + (unsigned)below(8); }
+
+/* A number with so many bytes in use: at an edge, with bytes of 0 at its lower end or anywhere below the highest, or
+   scattered. The edges of all lengths are 256^k - 1, 256^k and 256^k + 1. */
+static uint64_t a_number(unsigned length) {
+    uint64_t least = UINT64_C(1) << 8 * (length - 1), most = UINT64_MAX >> (64 - 8 * length), number = any() & most;
+    switch (below(8)) {
+    case 0: return one_in(3) ? most : least + below(2);
+    case 1: number &= UINT64_MAX << 8 * below(length); break;
+    case 2:
+        for (unsigned i = 0; i + 1 < length; i++)
+            if (one_in(2)) number &= ~(UINT64_C(255) << 8 * i);
+    }
+    return number < least ? number | least : number;
+}
+
+static unsigned bytes_of(uint64_t number) {
+    unsigned length = 0;
+    for (; number != 0; number >>= 8) length++;
+    return length;
+}
+
+/* A herd of one length, of every length, or scattered. Short numbers are few: one that the herd has already gives way to a
+   longer one. */
+static void gather(void) {
+    uint64_t herd = below(16);
+    for (size_t i = 0, k; i < pool_size; i++) {
+        unsigned length = herd < 8 ? 1 + (unsigned)herd : a_length();
+        do {
+            pool[i] = herd < 12 ? a_number(length) : any();
+            length += length < 8;
+            for (k = 0; pool[k] != pool[i];) k++;
+        } while (k < i);
+    }
+}
 
 static void lay_out(Table *t) {
     uint64_t *p = t->block + GUARD;
@@ -108,7 +145,7 @@ static void lay_out(Table *t) {
 
 static uint64_t an_animal(void) {
     if (one_in(300)) return 0;
-    if (one_in(50)) return any();
+    if (one_in(50)) return a_number(a_length());
     return pool[below(pool_size)];
 }
 
@@ -484,7 +521,7 @@ static void episode(int large, int kind, uint64_t length) {
     }
     size_t room = 4 * n < m ? 4 * n : m;
     pool_size = room + room / 3 + 3;
-    for (size_t i = 0; i < pool_size; i++) pool[i] = any();
+    gather();
     for (int k = 0; k < TABLES; k++) lay_out(&tables[k]);
     for (size_t i = 0; i < used; i++) ours->block[i] = any();
     if (kind == GARBAGE) garbage();
@@ -527,6 +564,9 @@ static void episode(int large, int kind, uint64_t length) {
             if (!same) differs(&c, &told, &other, k, kind);
         }
         by_call[c.call]++;
+        uint64_t *by_length = by_bytes[c.call][bytes_of(c.animal)];
+        by_length[0]++;
+        by_length[1] += told.refusal == 11 || (told.refusal == 0 && (told.kind != 0 || c.call == SET || c.call == DELETE));
         by_kind[kind]++;
         large_calls += (uint64_t)large;
         by_refusal[told.refusal]++;
@@ -568,6 +608,13 @@ int main(int argc, char **argv) {
     for (int i = 0; i < MEETINGS; i++) printf("  %s %" PRIu64, meeting_names[i], by_meeting[i]);
     printf("\nsets refused 3 for an issue after now: %" PRIu64 "\nreads and serves of the animal right after 11: %" PRIu64, issued_later, asked_after);
     printf("\nread and serve:  absent %" PRIu64 "  fresh %" PRIu64 "  old %" PRIu64 "  ahead %" PRIu64, by_answer[0], by_answer[1], by_answer[2], by_answer[3]);
+    printf("\nby the bytes of the animal's number that are in use (in brackets: she was held, or stored):");
+    static const int shown[] = {READ, SERVE, SET, DELETE};
+    for (int i = 0; i < 4; i++) {
+        printf("\n  %s", call_names[shown[i]]);
+        for (int k = 1; k < 9; k++)
+            printf("  %d: %" PRIu64 " (%" PRIu64 ")", k, by_bytes[shown[i]][k][0], by_bytes[shown[i]][k][1]);
+    }
     printf("\nplain reads behind every call, on M 4096 one behind each of a clean table and all of them behind one in %d:", LARGE_SHARE);
     for (int i = 1; i >= 0; i--) {
         const Plains *p = &plains[i];

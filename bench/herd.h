@@ -38,6 +38,11 @@ static inline double now_ns(void) {
     return 1e9 * (double)t.tv_sec + (double)t.tv_nsec;
 }
 
+/* Kinds of numbers besides scattered ones, which have eight bytes: below 2^32; and 15 digits with a country's three in
+   front, as on an ear tag, where Germany's 276 gives six bytes. */
+static inline uint64_t small(void) { return 1 + any() % UINT32_MAX; }
+static inline uint64_t ear_tag(void) { return UINT64_C(276000000000000) + any() % UINT64_C(1000000000000); }
+
 /* Fills a table up to a load in percent. */
 static inline void settle(Table *t, unsigned load) {
     size_t want = (size_t)M * load / 100;

@@ -80,7 +80,8 @@ class Day:
 
     def __init__(self, seed):
         self.r = random.Random(seed)
-        self.pool = [self.r.choice([n + 1, self.r.getrandbits(64)]) for n in range(self.r.choice([6, 30, 90]))]
+        self.pool = [self.r.choice([n + 1, self.r.getrandbits(64), self.of_any_length(), self.of_any_length()])
+                     for n in range(self.r.choice([6, 30, 90]))]
         self.now = self.r.choice([0, 100, 2**40])
         self.last, self.issues = self.pool[0], {}  # the animal of the last set; each animal's last minute of issue
         self.again = None  # the second call of a pair
@@ -99,10 +100,17 @@ class Day:
         r = self.r
         return r.choice([0, 1, r.randrange(50), r.randrange(2**32), 2**32 - 1, 2**32, r.getrandbits(64), 2**64 - 1])
 
+    def of_any_length(self):
+        """Of one to eight bytes: scattered, at an edge, or with bytes of 0. A hash may take such another way."""
+        r, n = self.r, self.r.randrange(1, 9)
+        edge = min(256**n + r.choice([-1, 0, 1]), 2**64 - 1)
+        holes = int.from_bytes(bytes(r.choice([0, r.randrange(256)]) for _ in range(n)), 'little')
+        return r.choice([r.getrandbits(8 * n), r.getrandbits(8 * n), edge, holes]) or 1
+
     def animal(self):
         if self.one_in(5):
             return self.last
-        return 0 if self.one_in(60) else self.number() if self.one_in(20) else self.r.choice(self.pool)
+        return 0 if self.one_in(60) else self.of_any_length() if self.one_in(20) else self.r.choice(self.pool)
 
     def minute(self):
         self.now += self.r.randrange(40)

@@ -1,8 +1,8 @@
 /*
- * Checks include/boughladder.h and libboughladder.a against each other: the layout of each struct, each call with known
- * answers (the order's examples), late lists and the order of set's refusals, plain read and where it answers as read,
- * the sizes and limits, the calls over a table beside those over the runs, and garbage memory of any length in blocks
- * of their own, so that valgrind sees a read or a write outside.
+ * Checks include/boughladder.h and libboughladder.a against each other: the layout of each struct, where the hash puts
+ * an animal, each call with known answers (the order's examples), late lists and the order of set's refusals, plain
+ * read and where it answers as read, the sizes and limits, the calls over a table beside those over the runs, and
+ * garbage memory of any length in blocks of their own, so that valgrind sees a read or a write outside.
  * `check ROUNDS` prints one line, `N checks passed`, or the checks that failed.
  */
 #include <stdio.h>
@@ -151,12 +151,37 @@ static uint32_t fnv(const void *bytes, size_t n) {
     return h;
 }
 
+/* A set into a fresh table with 2,048 buckets: the animal stands where that hash says, in slot 0, with its tag. */
+static int stands(uint64_t animal, uint32_t hash) {
+    Table t = lend(8192, 1, 4);
+    uint32_t tag = hash >> 24 == 0 ? 1 : hash >> 24;
+    int holds = boughladder_fresh(LENT(t)) == 0 && boughladder_set(LENT(t), animal, 5, 100, 100, 0).refusal == 0 &&
+                t.slots[4 * (hash % 2048)] == 65536 * tag;
+    give_back(&t);
+    return holds;
+}
+
+/* The same by the hash of its bytes, lowest first. */
+static int stands_by_bytes(uint64_t animal) {
+    uint8_t bytes[8];
+    for (int i = 0; i < 8; i++) bytes[i] = (uint8_t)(animal >> 8 * i);
+    return stands(animal, fnv(bytes, 8));
+}
+
 static void hashes(void) {
     const uint8_t one[8] = {1, 0, 0, 0, 0, 0, 0, 0};
     CHECK(fnv("", 0) == 0x811c9dc5u);
     CHECK(fnv("a", 1) == 0xe40c292cu);
     CHECK(fnv("foobar", 6) == 0xbf9cf968u);
+    CHECK(fnv("chongo ", 7) == 0x6bdd5c67u);
+    CHECK(fnv("chongo w", 8) == 0xdd77ed30u);
+    CHECK(fnv("chongo wa", 9) == 0xf4ca9683u);
     CHECK(fnv(one, 8) == 0x3e801244u);
+
+    /* In the table: the published vector of eight bytes, a number of each length from eight bytes on down, the edges. */
+    CHECK(stands(0x77206f676e6f6863u, 0xdd77ed30u));
+    for (int i = 0; i < 8; i++) CHECK(stands_by_bytes(0x8796a5b4c3d2e1f0u >> 8 * i));
+    for (int i = 8; i < 64; i += 8) CHECK(stands_by_bytes(((uint64_t)1 << i) - 1) && stands_by_bytes((uint64_t)1 << i));
 }
 
 static uint32_t shape(size_t s, size_t c, size_t i) {
