@@ -67,10 +67,10 @@
    What was compiled before does link, and passes its numbers one place off. So does this header with the archive of
    1.0.0, which takes now for standing: every permission is then fresh for ever. Compile and link everything again.
    A caller of 2.0.0 needs no change. One of plain read does not link with the archive of 2.0.0. */
-#define BOUGHLADDER_VERSION "2.1.0"
+#define BOUGHLADDER_VERSION "2.1.1"
 #define BOUGHLADDER_VERSION_MAJOR 2
 #define BOUGHLADDER_VERSION_MINOR 1
-#define BOUGHLADDER_VERSION_PATCH 0
+#define BOUGHLADDER_VERSION_PATCH 1
 
 /* Sizes: words of slots for n buckets, words of items for m places, bytes of a whole list of m places. V counters are
    V words. */
