@@ -4,6 +4,7 @@ use mathlib.Core.Path.{_≡_, refl, sym, ap, _∙_, subst}
 use mathlib.Core.Logic.{_⊎_}
 use mathlib.Core.List.{List, [], _∷_}
 use lib.ListN.{replicate}
+use lib.IntN.{ℤ}
 use Rattle.model.specs.Choice.{choose}
 use Rattle.model.specs.Memory.{Mem, stamp}
 use Rattle.model.specs.Shape.{Shape, fresh-memory, four, eight, Ways}
@@ -71,11 +72,11 @@ module _ (W : Ways) where
         as-row-on W (s .memory) (s .right) m well-story c (t .0)
         ∙ ap (λ l. row-call (Z .places) (beyond (O .answer m (did c))) l c .answer) same-story
 
-    freshes : (x limit now v a : ℕ) → (O .answer m (did (read x limit now)) ≡ fresh v a) ⊎ (O .answer m (did (serve x limit now)) ≡ fresh v a)
+    freshes : (x limit now v : ℕ) (z : ℤ) → (O .answer m (did (read x limit now)) ≡ fresh v z) ⊎ (O .answer m (did (serve x limit now)) ≡ fresh v z)
         → (p : ℕ) × (p < places W s) × Allowed (row W O s) x limit now v p
-    freshes x limit now v a e =
+    freshes x limit now v z e =
         subst (λ l. (p : ℕ) × (p < places W s) × Allowed l x limit now v p) same-story
-        (fresh-on W (s .memory) (s .right) m well-story x limit now v a e)
+        (fresh-on W (s .memory) (s .right) m well-story x limit now v z e)
 
   pub our-row : Demand2 W O
   our-row =

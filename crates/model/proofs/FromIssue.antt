@@ -7,6 +7,7 @@ use mathlib.Core.Bool.{Bool, true, false}
 use mathlib.Core.Option.{Option, some}
 use mathlib.Core.List.{List}
 use lib.ListN.{length}
+use lib.IntN.{ℤ, pos}
 use lib.Dec.{eqb, ltb}
 use borrow.Author.Tests.{eq-eqb, eqb-false, eqb-true, le-ltb, ne-eqb}
 use Rattle.model.specs.Choice.{choose, range}
@@ -15,7 +16,7 @@ use Rattle.model.specs.Shape.{Shape, Ways, right-lengths, shape-of}
 use Rattle.model.specs.Calling.{did, read, set-animal, Typed}
 use Rattle.model.specs.Answers.{Answer, ahead, fresh, is, old, refused, stored}
 use Rattle.model.specs.Age.{no-minute}
-use Rattle.model.specs.Row.{Row, beyond, fill, plain, renew, row-bad-grant, row-bad-time, row-call, row-late, row-new, row-read, row-says, row-set, row-stamp, stay, walk-to}
+use Rattle.model.specs.Row.{Row, beyond, fill, plain, renew, row-bad-grant, row-bad-time, row-call, row-late, row-left, row-new, row-read, row-says, row-set, row-stamp, stay, walk-to}
 use Rattle.model.specs.WellFormed.{WellFormed}
 use Rattle.model.specs.AnyTable.{leaves}
 use Rattle.model.specs.Demands.{AgeFromIssue, reads, table}
@@ -96,12 +97,15 @@ unplain limit now v s a = go (eqb s (2 ^ 64 - 1)) (ltb now s) (ltb limit (now - 
     same : (r : Answer) → is 4 r ≡ false → plain a ≡ r → a ≡ r
     same r n e = bool (λ b. choose b (stored 0 0) a ≡ r → a ≡ r) (is 4 a) (λ z f. true-false (ap (is 4) (sym f)) n) (λ z f. f) e
 
-    go : (b c d : Bool) → plain a ≡ choose b (fresh v 0) (choose c ahead (choose d (old (now - s)) (fresh v (now - s))))
-        → a ≡ choose b (fresh v 0) (choose c ahead (choose d (old (now - s)) (fresh v (now - s))))
-    go true c d = same (fresh v 0) refl
+    z : ℤ
+    z = row-left limit now s
+
+    go : (b c d : Bool) → plain a ≡ choose b (fresh v (pos limit)) (choose c ahead (choose d (old z) (fresh v z)))
+        → a ≡ choose b (fresh v (pos limit)) (choose c ahead (choose d (old z) (fresh v z)))
+    go true c d = same (fresh v (pos limit)) refl
     go false true d = same ahead refl
-    go false false true = same (old (now - s)) refl
-    go false false false = same (fresh v (now - s)) refl
+    go false false true = same (old z) refl
+    go false false false = same (fresh v z) refl
 
 module _ (W : Ways) (m₀ : Mem) (right : right-lengths W m₀ ≡ true) (m : Mem) (w : WellFormed (shape-of W m₀) m) (g : Grant) (t : Typed (set-animal g)) where
   abbrev Y : Shape

@@ -1,10 +1,11 @@
 -- Where a definition says another thing than document 01, it shows here first
 pub mod AsWritten
--- Footing: lists, the hash, what a shape's numbers are like, calm memory, the row's words, lengths and stores, late lists
+-- Footing: lists, the hash, what a shape's numbers are like, calm memory, how long is left, the row's words, lengths and stores, late lists
 pub mod ListLaws
 pub mod Hash
 pub mod ShapeLaws
 pub mod Calm
+pub mod Left
 pub mod RowWords
 pub mod Trace
 pub mod Lent
@@ -43,6 +44,7 @@ pub mod Demand1
 pub mod Demands
 pub mod Never
 pub mod FreshAnywhere
+pub mod FreshIffLeft
 pub mod FromIssue
 pub mod Linked
 pub mod Theorems

@@ -6,6 +6,7 @@ use mathlib.Core.Bool.{true, false}
 use mathlib.Core.Option.{none, some}
 use mathlib.Core.List.{List, []}
 use lib.ListN.{length, take}
+use lib.IntN.{ℤ}
 use Rattle.model.specs.Choice.{choose}
 use Rattle.model.specs.Memory.{Mem, stamp}
 use Rattle.model.specs.Shape.{Shape, fresh-memory, right-lengths, shape-of, Ways, counter-of}
@@ -94,13 +95,13 @@ module _ (W : Ways) (m₀ : Mem) (right : right-lengths W m₀ ≡ true) where
     well-on c t = subst (λ m′. WellFormed Y m′) (sym (leaves-is c)) (well-after Y lawY m g c t)
 
     -- fresh is said only of a held permission in time
-    pub fresh-on : (x limit now v a : ℕ)
-        → (O .answer m (did (read x limit now)) ≡ fresh v a) ⊎ (O .answer m (did (serve x limit now)) ≡ fresh v a)
+    pub fresh-on : (x limit now v : ℕ) (z : ℤ)
+        → (O .answer m (did (read x limit now)) ≡ fresh v z) ⊎ (O .answer m (did (serve x limit now)) ≡ fresh v z)
         → (p : ℕ) × (p < Y .places) × Allowed (m .items) x limit now v p
-    fresh-on x limit now v a e =
-        row-fresh (m .items) x limit now v a (Y .places) (sym (as-row-on (read x limit now) tt) ∙ ap plain (⊎-elim (λ e. e) served e))
+    fresh-on x limit now v z e =
+        row-fresh (m .items) x limit now v z (Y .places) (sym (as-row-on (read x limit now) tt) ∙ ap plain (⊎-elim (λ e. e) served e))
       where
-        served : O .answer m (did (serve x limit now)) ≡ fresh v a → O .answer m (did (read x limit now)) ≡ fresh v a
+        served : O .answer m (did (serve x limit now)) ≡ fresh v z → O .answer m (did (read x limit now)) ≡ fresh v z
         served e = answer-is (read x limit now) ∙ sym (serve-reads Y m x limit now) ∙ sym (answer-is (serve x limit now)) ∙ e
 
     -- cut anywhere

@@ -1,37 +1,43 @@
 -- The paper's number and values tell every answer apart. Assumes nothing.
 use Prim.Native.Nat.{ℕ, suc, zero}
 use mathlib.Core.Path.{_≡_, refl, sym, ap, _∙_}
+use mathlib.Core.Option.{Option, none, some}
 use mathlib.Core.List.{List, [], _∷_}
 use lib.ListN.{getD, drop}
+use lib.IntN.{ℤ, pos}
 use Rattle.model.specs.Answers.{Answer, Paper, absent, ahead, at-place, deleted, evicted, fresh, listed, old, paper, refused, started, stored}
 use mathlib.Core.Logic.{_≢_}
 
 -- the answer is read back off them
-back-from : ℕ → List ℕ → Answer
-back-from zero vs = absent
-back-from (suc zero) vs = fresh (getD vs 0 0) (getD vs 1 0)
-back-from (suc (suc zero)) vs = old (getD vs 0 0)
-back-from (suc (suc (suc zero))) vs = ahead
-back-from (suc (suc (suc (suc zero)))) vs = stored (getD vs 0 0) (getD vs 1 0)
-back-from (suc (suc (suc (suc (suc zero))))) vs = deleted
-back-from (suc (suc (suc (suc (suc (suc zero)))))) vs = evicted (getD vs 0 0) (getD vs 1 0) (getD vs 2 0)
-back-from (suc (suc (suc (suc (suc (suc (suc zero))))))) vs = started
-back-from (suc (suc (suc (suc (suc (suc (suc (suc zero)))))))) vs = listed (getD vs 0 0) (drop 1 vs)
-back-from (suc (suc (suc (suc (suc (suc (suc (suc (suc n))))))))) vs = at-place (getD vs 0 0)
+the-left : Option ℤ → ℤ
+the-left none = pos 0
+the-left (some z) = z
+
+back-from : Option ℤ → ℕ → List ℕ → Answer
+back-from o zero vs = absent
+back-from o (suc zero) vs = fresh (getD vs 0 0) (the-left o)
+back-from o (suc (suc zero)) vs = old (the-left o)
+back-from o (suc (suc (suc zero))) vs = ahead
+back-from o (suc (suc (suc (suc zero)))) vs = stored (getD vs 0 0) (getD vs 1 0)
+back-from o (suc (suc (suc (suc (suc zero))))) vs = deleted
+back-from o (suc (suc (suc (suc (suc (suc zero)))))) vs = evicted (getD vs 0 0) (getD vs 1 0) (getD vs 2 0)
+back-from o (suc (suc (suc (suc (suc (suc (suc zero))))))) vs = started
+back-from o (suc (suc (suc (suc (suc (suc (suc (suc zero)))))))) vs = listed (getD vs 0 0) (drop 1 vs)
+back-from o (suc (suc (suc (suc (suc (suc (suc (suc (suc n))))))))) vs = at-place (getD vs 0 0)
 
 back : Paper → Answer
 back r = go (r .values)
   where
     go : List ℕ → Answer
     go [] = refused (r .number)
-    go (k ∷ vs) = back-from k vs
+    go (k ∷ vs) = back-from (r .signed) k vs
 
 read-back : (a : Answer) → back (paper a) ≡ a
-unfolding back back-from
+unfolding back back-from the-left
 read-back (refused n) = refl
 read-back absent = refl
-read-back (fresh v a) = refl
-read-back (old a) = refl
+read-back (fresh v z) = refl
+read-back (old z) = refl
 read-back ahead = refl
 read-back (stored v n) = refl
 read-back deleted = refl
@@ -47,8 +53,8 @@ paper-injective a b e = sym (read-back a) ∙ ap back e ∙ read-back b
 pub numbered : (a : Answer) → paper a .number ≢ 0 → a ≡ refused (paper a .number)
 numbered (refused n) h = refl
 numbered absent h = absurd (h refl)
-numbered (fresh v a) h = absurd (h refl)
-numbered (old a) h = absurd (h refl)
+numbered (fresh v z) h = absurd (h refl)
+numbered (old z) h = absurd (h refl)
 numbered ahead h = absurd (h refl)
 numbered (stored v n) h = absurd (h refl)
 numbered deleted h = absurd (h refl)

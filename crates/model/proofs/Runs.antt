@@ -8,6 +8,7 @@ use mathlib.Core.Bool.{Bool, true, false}
 use mathlib.Core.Option.{Option, none, some}
 use mathlib.Core.List.{List}
 use lib.ListN.{length-replicate}
+use lib.IntN.{ℤ, pos}
 use lib.Dec.{eqb}
 use borrow.Author.Tests.{lt-ltb, le-ltb, eq-eqb, ne-eqb, eqb-true, eqb-false}
 use Rattle.model.specs.Choice.{choose, range}
@@ -16,7 +17,7 @@ use Rattle.model.specs.Shape.{Shape, fresh-memory}
 use Rattle.model.specs.Answers.{Answer, absent, ahead, fresh, old, refused, says-fresh}
 use Rattle.model.specs.Age.{bad-time, judge, standing-mark}
 use Rattle.model.specs.Calls.{Outcome, after-call, asked, busy, call, cut-call, held, home-damage, refuse, serve-at, tell}
-use Rattle.model.specs.Row.{row-bad-time, row-call, row-read, row-says, stay, walk-to}
+use Rattle.model.specs.Row.{row-bad-time, row-call, row-left, row-read, row-says, stay, walk-to}
 use Rattle.model.specs.WellFormed.{WellFormed}
 use Rattle.model.specs.Demands.{Allowed}
 use Rattle.model.proofs.ShapeLaws.{Lawful}
@@ -72,30 +73,30 @@ serve-reads Y m x limit now =
     same (some p) = refl
 
 -- fresh is said only of a permission in time
-module _ (l : List ℕ) (x limit now v a : ℕ) where
+module _ (l : List ℕ) (x limit now v : ℕ) (z : ℤ) where
   abbrev pub InTime : ℕ → Type 0
   InTime s = (s ≡ standing-mark) ⊎ ((s ≤ now) × (now - s ≤ limit))
 
-  pub not-fresh : {A : Type 0} (r : Answer) → says-fresh r ≡ false → r ≡ fresh v a → A
+  pub not-fresh : {A : Type 0} (r : Answer) → says-fresh r ≡ false → r ≡ fresh v z → A
   not-fresh r f e = true-false (ap says-fresh e) f
 
   -- what the row says, where it says fresh
-  pub in-time : (u s : ℕ) → row-says limit now u s ≡ fresh v a → (u ≡ v) × InTime s
+  pub in-time : (u s : ℕ) → row-says limit now u s ≡ fresh v z → (u ≡ v) × InTime s
   unfolding row-says
   in-time u s e =
       dite (ℕ-discrete s standing-mark)
-      (λ q. let f : fresh u 0 ≡ fresh v a = rw (eq-eqb s standing-mark q) at e in (cc, inl q))
+      (λ q. let f : fresh u (pos limit) ≡ fresh v z = rw (eq-eqb s standing-mark q) at e in (cc, inl q))
       λ nq. dite (decLt now s)
       (λ q. not-fresh ahead refl (rw (ne-eqb s standing-mark nq, lt-ltb now s q) at e))
       λ q. let le : s ≤ now = omega arith in
       dite (decLt limit (now - s))
-      (λ k. not-fresh (old (now - s)) refl (rw (ne-eqb s standing-mark nq, le-ltb now s le, lt-ltb limit (now - s) k) at e))
+      (λ k. not-fresh (old (row-left limit now s)) refl (rw (ne-eqb s standing-mark nq, le-ltb now s le, lt-ltb limit (now - s) k) at e))
       λ k. let le′ : now - s ≤ limit = omega arith in
-      let f : fresh u (now - s) ≡ fresh v a = rw (ne-eqb s standing-mark nq, le-ltb now s le, le-ltb limit (now - s) le′) at e in
+      let f : fresh u (row-left limit now s) ≡ fresh v z = rw (ne-eqb s standing-mark nq, le-ltb now s le, le-ltb limit (now - s) le′) at e in
       (cc, inr (le, le′))
 
   found-fresh : (M : ℕ) → x ≢ 0 → {o : Option ℕ} → First (λ p. eqb (animal l p) x) (range 0 M) o
-      → row-read M l limit now o ≡ fresh v a → (p : ℕ) × (p < M) × Allowed l x limit now v p
+      → row-read M l limit now o ≡ fresh v z → (p : ℕ) × (p < M) × Allowed l x limit now v p
   found-fresh M nz (missing h) e = not-fresh absent refl e
   found-fresh M nz (found {i = p} q t) e =
       let j = in-time (permission l p) (stamp l p) e in (
@@ -104,12 +105,12 @@ module _ (l : List ℕ) (x limit now v a : ℕ) where
         record { real = nz; animal-is = eqb-true (animal l p) x t; permission-is = j .0; in-time = j .1 },
       )
 
-  pub row-fresh : (M : ℕ) → row-call M 0 l (read x limit now) .answer ≡ fresh v a → (p : ℕ) × (p < M) × Allowed l x limit now v p
+  pub row-fresh : (M : ℕ) → row-call M 0 l (read x limit now) .answer ≡ fresh v z → (p : ℕ) × (p < M) × Allowed l x limit now v p
   row-fresh M e =
       asks (eqb x 0) (row-bad-time M limit now) (eqb-false x 0) e
     where
       asks : (b c : Bool) → (b ≡ false → x ≢ 0)
-          → choose b (stay l (refused 2)) (choose c (stay l (refused 3)) (stay l (row-read M l limit now (walk-to l x M 0)))) .answer ≡ fresh v a
+          → choose b (stay l (refused 2)) (choose c (stay l (refused 3)) (stay l (row-read M l limit now (walk-to l x M 0)))) .answer ≡ fresh v z
           → (p : ℕ) × (p < M) × Allowed l x limit now v p
       asks true c nz e = not-fresh (refused 2) refl e
       asks false true nz e = not-fresh (refused 3) refl e

@@ -19,8 +19,8 @@ use Rattle.model.specs.declared.Starting.the-variants as starting
 unread : Answer → Reading
 unread (refused n) = reading.Refused n
 unread absent = reading.Absent
-unread (fresh v a) = reading.Fresh v a
-unread (old a) = reading.Old a
+unread (fresh v z) = reading.Fresh v z
+unread (old z) = reading.Old z
 unread ahead = reading.Ahead
 unread (stored v n) = reading.Absent
 unread deleted = reading.Absent
@@ -32,8 +32,8 @@ unread (at-place p) = reading.Absent
 reading-back : (r : Reading) → unread (said-reading r) ≡ r
 unfolding unread
 reading-back reading.Absent = refl
-reading-back (reading.Fresh v a) = refl
-reading-back (reading.Old a) = refl
+reading-back (reading.Fresh v z) = refl
+reading-back (reading.Old z) = refl
 reading-back reading.Ahead = refl
 reading-back (reading.Refused n) = refl
 

@@ -7,6 +7,8 @@ use Rattle.model.proofs.FreshAnywhere as anywhere
 use Rattle.model.proofs.NoTen as ten
 use Rattle.model.proofs.FromIssue as issue
 use Rattle.model.proofs.Late as late
+use Rattle.model.proofs.Left as left
+use Rattle.model.proofs.FreshIffLeft as iff
 use Rattle.model.proofs.Linked as linked
 use Rattle.model.proofs.Paper as paper
 use Rattle.model.proofs.AsWritten as written
@@ -28,6 +30,9 @@ owed =
       age-from-issue = issue.age-from-issue;
       late-refused = late.late-refused;
       stamps-rise = late.stamps-rise;
+      left-is = left.left-is;
+      left-least = left.left-least;
+      fresh-iff-left = iff.fresh-iff-left;
       leaves-lent = linked.leaves-lent four;
       cuts-lent = linked.cuts-lent four;
       fresh-lent = linked.fresh-lent four;

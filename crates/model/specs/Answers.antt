@@ -1,17 +1,19 @@
--- What a call can answer, the paper's number and values of each answer, and the refusal numbers. Assumes nothing.
+-- What a call can answer, the paper's number and values of each answer, a signed one among them, and the refusal numbers. Assumes nothing.
 use Prim.Native.Nat.{ℕ}
 use mathlib.Core.Path.{_≡_}
 use mathlib.Core.Bool.{Bool, true, false}
+use mathlib.Core.Option.{Option, none, some}
 use mathlib.Core.List.{List, [], _∷_}
 use lib.ListN.{getD}
+use lib.IntN.{ℤ}
 use lib.Dec.{eqb}
 use Rattle.model.specs.Choice.{choose, one-of}
 
 pub data Answer : Type 0 where
   refused : (number : ℕ) → Answer
   absent : Answer
-  fresh : (permission age : ℕ) → Answer
-  old : (age : ℕ) → Answer
+  fresh : (permission : ℕ) (left : ℤ) → Answer
+  old : (left : ℤ) → Answer
   ahead : Answer
   stored : (visits moves : ℕ) → Answer
   deleted : Answer
@@ -20,19 +22,24 @@ pub data Answer : Type 0 where
   listed : (count : ℕ) (bytes : List ℕ) → Answer
   at-place : (place : ℕ) → Answer
 
--- the paper's number of an answer, 0 for success, and its values: which success it is, and what it tells
+-- the paper's number of an answer, 0 for success, and its values: which success it is, and what it tells; the signed one, how long is
+-- left, stands by itself
 pub record Paper : Type 0 where
   pub number : ℕ
   pub values : List ℕ
+  pub signed : Option ℤ
 
 abbrev pub success : List ℕ → Paper
-success vs = record { number = 0; values = vs }
+success vs = record { number = 0; values = vs; signed = none }
+
+abbrev pub success-left : List ℕ → ℤ → Paper
+success-left vs z = record { number = 0; values = vs; signed = some z }
 
 abbrev pub paper : Answer → Paper
-paper (refused n) = record { number = n; values = [] }
+paper (refused n) = record { number = n; values = []; signed = none }
 paper absent = success (0 ∷ [])
-paper (fresh v a) = success (1 ∷ v ∷ a ∷ [])
-paper (old a) = success (2 ∷ a ∷ [])
+paper (fresh v z) = success-left (1 ∷ v ∷ []) z
+paper (old z) = success-left (2 ∷ []) z
 paper ahead = success (3 ∷ [])
 paper (stored v n) = success (4 ∷ v ∷ n ∷ [])
 paper deleted = success (5 ∷ [])

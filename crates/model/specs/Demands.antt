@@ -6,6 +6,7 @@ use mathlib.Core.Bool.{true, false}
 use mathlib.Core.Option.{none, some}
 use mathlib.Core.List.{List, [], _∷_, List·Memᴰ as In}
 use lib.ListN.{length, getD, set}
+use lib.IntN.{ℤ}
 use Rattle.model.specs.Memory.{Mem, animal, permission, stamp}
 use Rattle.model.specs.Shape.{Shape, pair, second-of, bucket, Home, homes, right-lengths, shape-of, Ways}
 use Rattle.model.specs.Moves.{Move, moved-by, Free, Run}
@@ -42,8 +43,8 @@ pub record Holds (l : List ℕ) (x limit now v p : ℕ) : Type 0 where
 
 -- Fresh anywhere, beyond the order: on any lent memory, a damaged cabinet's too, fresh is said only of such a place
 abbrev pub FreshAnywhere : Table → Type 0
-FreshAnywhere T = (m : Mem) (x limit now v a : ℕ)
-    → (T .answer m (did (read x limit now)) ≡ fresh v a) ⊎ (T .answer m (did (serve x limit now)) ≡ fresh v a)
+FreshAnywhere T = (m : Mem) (x limit now v : ℕ) (z : ℤ)
+    → (T .answer m (did (read x limit now)) ≡ fresh v z) ⊎ (T .answer m (did (serve x limit now)) ≡ fresh v z)
     → (p : ℕ) × Holds (m .items) x limit now v p
 
 -- good inputs of a set: what a caller can pass and neither refusal 2 nor 3 refuses
@@ -146,8 +147,8 @@ module _ (W : Ways) where
 
   -- fresh is said only of a held permission within the age limit, or a standing one
   abbrev pub FreshOnly : Table → Type 0
-  FreshOnly T = (s : Story) (x limit now v a : ℕ)
-      → (T .answer (table T s) (did (read x limit now)) ≡ fresh v a) ⊎ (T .answer (table T s) (did (serve x limit now)) ≡ fresh v a)
+  FreshOnly T = (s : Story) (x limit now v : ℕ) (z : ℤ)
+      → (T .answer (table T s) (did (read x limit now)) ≡ fresh v z) ⊎ (T .answer (table T s) (did (serve x limit now)) ≡ fresh v z)
       → (p : ℕ) × (p < places s) × Allowed (row T s) x limit now v p
 
   abbrev pub reads : Table → Mem → ℕ → ℕ → ℕ → Answer

@@ -5,6 +5,8 @@ use mathlib.Core.Bool.{Bool, true, false, not, _&&_}
 use mathlib.Core.Option.{Option, none, some}
 use mathlib.Core.List.{List, [], _∷_, _++_}
 use lib.ListN.{set, replicate}
+use lib.IntN.{ℤ, pos, negℤ, _-ℤ_}
+use lib.Signed.{ltZ}
 use lib.Dec.{ltb, leb, eqb}
 use Rattle.model.specs.Choice.{choose}
 use Rattle.model.specs.Memory.{animal, permission, stamp, recent}
@@ -36,11 +38,19 @@ renew l p b c = set (set (set l (4 * p + 1) b) (4 * p + 2) c) (4 * p + 3) 1
 abbrev pub note : List ℕ → ℕ → ℕ → List ℕ
 note l p mark = set l (4 * p + 3) mark
 
--- a permission v with stamp s: standing is fresh of age 0; else ahead, or fresh, or old, by the age
+-- a signed number, or the least one that is told, -2^62
+abbrev pub at-least : ℤ → ℤ
+at-least z = choose (ltZ z (negℤ (pos (2 ^ 62)))) (negℤ (pos (2 ^ 62))) z
+
+-- how long is left of a permission with stamp s, worked out with a sign: the limit minus now minus s
+unfoldable pub row-left : ℕ → ℕ → ℕ → ℤ
+row-left limit now s = at-least (pos limit -ℤ pos (now - s))
+
+-- a permission v with stamp s: standing is fresh with the whole limit left; else ahead, or fresh, or old, by the age
 unfoldable pub row-says : ℕ → ℕ → ℕ → ℕ → Answer
 row-says limit now v s =
-    choose (eqb s (2 ^ 64 - 1)) (fresh v 0)
-    (choose (ltb now s) ahead (choose (ltb limit (now - s)) (old (now - s)) (fresh v (now - s))))
+    choose (eqb s (2 ^ 64 - 1)) (fresh v (pos limit))
+    (choose (ltb now s) ahead (choose (ltb limit (now - s)) (old (row-left limit now s)) (fresh v (row-left limit now s))))
 
 -- CLOCK as document 01 tells it. From the hand p on: skip a vacant place; store 0 in the recent word of a recent one and pass; take
 -- the first live one that isn't recent. n places were looked at before, and at most f more are

@@ -22,8 +22,8 @@ use Rattle.model.specs.declared.Starting.the-variants as starting
 -- read, serve and the plain engine
 abbrev pub said-reading : Reading → Answer
 said-reading reading.Absent = absent
-said-reading (reading.Fresh v a) = fresh v a
-said-reading (reading.Old a) = old a
+said-reading (reading.Fresh v z) = fresh v z
+said-reading (reading.Old z) = old z
 said-reading reading.Ahead = ahead
 said-reading (reading.Refused n) = refused n
 

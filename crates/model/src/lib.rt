@@ -17,11 +17,11 @@ pub struct MoveRecord {
     pub to: usize,
 }
 
-// Read, serve and the plain engine.
+// Read, serve and the plain engine: the minutes that are left of the limit, negative when overdue.
 pub enum Reading {
     Absent,
-    Fresh { permission: u32, age: u64 },
-    Old { age: u64 },
+    Fresh { permission: u32, left: i64 },
+    Old { left: i64 },
     Ahead,
     Refused(u32),
 }

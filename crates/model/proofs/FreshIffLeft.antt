@@ -1,0 +1,93 @@
+-- On any lent memory: read and serve say fresh exactly if what is left is not negative. Assumes nothing.
+use Prim.Native.Nat.{ℕ, _-_, _%_, _^_, _<_, _≤_}
+use native.Mathlib.Omega.{arith}
+use native.Mathlib.Decide.{ℕ-discrete, decLe, decLt}
+use mathlib.Core.Path.{_≡_, refl, sym, subst, _∙_}
+use mathlib.Core.Logic.{dite}
+use mathlib.Core.Bool.{Bool, true, false}
+use mathlib.Core.Option.{Option, none, some}
+use lib.IntN.{ℤ, pos}
+use lib.Signed.{_≤ℤ_, _<ℤ_, clashℤ}
+use lib.Dec.{eqb}
+use Rattle.model.specs.Choice.{choose}
+use Rattle.model.specs.Memory.{Mem, permission, stamp}
+use Rattle.model.specs.Shape.{Shape, Ways, right-lengths, shape-of}
+use Rattle.model.specs.Answers.{Answer, absent, ahead, fresh, old, paper, refused}
+use Rattle.model.specs.Calling.{read, serve}
+use Rattle.model.specs.Age.{bad-time, judge, left-of, standing-mark, verdict}
+use Rattle.model.specs.Calls.{busy, call, held, home-damage, refuse, tell}
+use Rattle.model.specs.Left.{FreshIffLeft, TellsTime, Timely}
+use Rattle.model.specs.Ours.{ours}
+use Rattle.model.proofs.ListLaws.{true-false}
+use Rattle.model.proofs.Left.{bounds, negative, not-negative, says-ahead, says-old, says-standing, says-young, whole}
+use Rattle.model.proofs.Runs.{serve-reads}
+
+-- an answer without a number
+untold : (limit : ℕ) (a : Answer) → paper a .signed ≡ none → TellsTime limit a
+untold limit a n z e = absurd (none-some (sym n ∙ e))
+  where
+    none-some : none ≡ some z → ⊥
+    none-some q = subst Told (sym q) tt
+      where
+        Told : Option ℤ → Type 0
+        Told none = ⊥
+        Told (some y) = Unit {0}
+
+module _ (limit : ℕ) where
+  told-fresh : (v a : ℕ) → a ≤ limit → TellsTime limit (fresh v (left-of limit a))
+  told-fresh v a h z e =
+      let q : left-of limit a ≡ z = cc in
+      let b = bounds limit a in
+      subst (Timely limit (fresh v (left-of limit a))) q
+      (record { fresh-iff-left = (λ _. not-negative limit a h, λ _. refl); least = b .0; most = b .1 })
+
+  told-old : (a : ℕ) → limit < a → TellsTime limit (old (left-of limit a))
+  told-old a h z e =
+      let q : left-of limit a ≡ z = cc in
+      let b = bounds limit a in
+      subst (Timely limit (old (left-of limit a))) q
+      (record { fresh-iff-left = (λ t. true-false t refl, λ k. clashℤ (negative limit a h) k); least = b .0; most = b .1 })
+
+  -- whatever the permission and its stamp
+  pub verdict-timely : (now v s : ℕ) → TellsTime limit (verdict limit now v s)
+  verdict-timely now v s =
+      dite (ℕ-discrete s standing-mark)
+      (λ e. said (says-standing limit now v s e) (subst (λ (z : ℤ). TellsTime limit (fresh (v % 2 ^ 32) z)) (whole limit) (told-fresh (v % 2 ^ 32) 0 (omega arith))))
+      λ ne. dite (decLt now s) (λ l. said (says-ahead limit now v s ne l) (untold limit ahead refl))
+      λ l. let le : s ≤ now = omega arith in
+      dite (decLe (now - s) limit) (λ k. said (says-young limit now v s ne le k) (told-fresh (v % 2 ^ 32) (now - s) k))
+      λ k. let lt : limit < now - s = omega arith in
+      said (says-old limit now v s ne le lt) (told-old (now - s) lt)
+    where
+      said : {a : Answer} → a ≡ verdict limit now v s → TellsTime limit a → TellsTime limit (verdict limit now v s)
+      said e t = subst (TellsTime limit) e t
+
+module _ (Y : Shape) (m : Mem) (x limit now : ℕ) where
+  refusal : (n : ℕ) → TellsTime limit (refused n)
+  refusal n = untold limit (refused n) refl
+
+  judged : (o : Option ℕ) → TellsTime limit (judge (m .items) limit now o)
+  judged none = untold limit absent refl
+  judged (some p) = verdict-timely limit now (permission (m .items) p) (stamp (m .items) p)
+
+  reads : TellsTime limit (call Y m (read x limit now) .answer)
+  reads = asks (eqb x 0) (bad-time limit now) (busy Y m x) (home-damage Y m x)
+    where
+      asks : (b c d f : Bool)
+          → TellsTime limit (choose b (refuse 2) (choose c (refuse 3) (choose d (refuse 8) (choose f (refuse 4) (tell (judge (m .items) limit now (held Y m x)))))) .answer)
+      asks true c d f = refusal 2
+      asks false true d f = refusal 3
+      asks false false true f = refusal 8
+      asks false false false true = refusal 4
+      asks false false false false = judged (held Y m x)
+
+pub fresh-iff-left : (W : Ways) → FreshIffLeft (ours W)
+fresh-iff-left W m x limit now = go (right-lengths W m)
+  where
+    Y : Shape
+    Y = shape-of W m
+
+    go : (b : Bool) → TellsTime limit (choose b (call Y m (read x limit now)) (refuse 1) .answer)
+        × TellsTime limit (choose b (call Y m (serve x limit now)) (refuse 1) .answer)
+    go true = let t = reads Y m x limit now in (t, subst (TellsTime limit) (sym (serve-reads Y m x limit now)) t)
+    go false = let t = refusal Y m x limit now 1 in (t, t)

@@ -1,0 +1,42 @@
+-- Wish 4: how long is left, as a signed number; and that fresh is said exactly if it is not negative. Assumes nothing.
+use Prim.Native.Nat.{ℕ, _^_, _≤_}
+use mathlib.Core.Path.{_≡_}
+use mathlib.Core.Logic.{_↔_}
+use mathlib.Core.Bool.{true}
+use mathlib.Core.Option.{some}
+use lib.IntN.{ℤ, pos, negℤ, _-ℤ_}
+use lib.Signed.{_≤ℤ_, _<ℤ_}
+use Rattle.model.specs.Memory.{Mem}
+use Rattle.model.specs.Calling.{Call, read, serve, did}
+use Rattle.model.specs.Answers.{Answer, paper, says-fresh}
+use Rattle.model.specs.Age.{left-of}
+use Rattle.model.specs.AnyTable.{Table}
+
+-- the limit minus the age, and the least number that is told
+abbrev pub limit-minus-age : ℕ → ℕ → ℤ
+limit-minus-age limit a = pos limit -ℤ pos a
+
+abbrev pub least-left : ℤ
+least-left = negℤ (pos (2 ^ 62))
+
+-- it is the limit minus the age wherever that is at least -2^62, and else -2^62
+abbrev pub LeftIs : Type 0
+LeftIs = (limit a : ℕ) → least-left ≤ℤ limit-minus-age limit a → left-of limit a ≡ limit-minus-age limit a
+
+abbrev pub LeftLeast : Type 0
+LeftLeast = (limit a : ℕ) → limit-minus-age limit a <ℤ least-left → left-of limit a ≡ least-left
+
+-- an answer that tells how long is left, z, and says fresh exactly if that is not negative; z lies between -2^62 and the limit
+pub record Timely (limit : ℕ) (a : Answer) (z : ℤ) : Type 0 where
+  pub fresh-iff-left : (says-fresh a ≡ true) ↔ (pos 0 ≤ℤ z)
+  pub least : least-left ≤ℤ z
+  pub most : z ≤ℤ pos limit
+
+-- what an answer tells of a permission that is held and not ahead
+abbrev pub TellsTime : ℕ → Answer → Type 0
+TellsTime limit a = (z : ℤ) → paper a .signed ≡ some z → Timely limit a z
+
+-- of any table, on any memory: read and serve say fresh exactly if what is left is not negative
+abbrev pub FreshIffLeft : Table → Type 0
+FreshIffLeft T = (m : Mem) (x limit now : ℕ)
+    → TellsTime limit (T .answer m (did (read x limit now))) × TellsTime limit (T .answer m (did (serve x limit now)))
