@@ -1,34 +1,66 @@
--- The age of a permission, a law a way out, and the minutes of a set, in the code's own words. Assumes nothing.
-use Prim.Native.Nat.{ℕ, _+_, _^_, _<_, _≤_, _-_, _%_}
+-- How long is left, the age of a permission, a law a way out, and the minutes of a set, in the code's own words. Assumes nothing.
+use Prim.Native.Nat.{ℕ, _+_, _^_, _<_, _≤_, _-_, _%_, min}
 use native.Mathlib.Omega.{arith}
+use native.Mathlib.Nat.{min-eq-left, min-eq-right, min-le-right}
 use native.Mathlib.Decide.{ℕ-discrete, decLe}
-use mathlib.Core.Path.{_≡_}
+use mathlib.Core.Path.{_≡_, sym, ap, ap₂, subst, _∙_}
 use mathlib.Core.Logic.{_≢_, dite}
-use lib.Dec.{leb}
+use lib.IntN.{ℤ, pos, negsuc, _-ℤ_}
+use lib.Signed.{_≤ℤ_}
+use lib.Dec.{leb, leb→le}
 use borrow.Author.Tests.{lt-ltb, le-ltb, eq-eqb, ne-eqb, le-leb, lt-leb}
-use Rattle.model.specs.Answers.{ahead, fresh, old}
-use Rattle.model.specs.Age.{age, bad-grant, is-fresh, no-minute, standing-mark, verdict}
+use mir.Syntax.{w64}
+use mir.Val.{toZ, ofZ, SFits}
+use mir.ValLaws.{toZ-pos, toZ-ofZ}
+use Rattle.model.specs.Answers.{fresh, old}
+use Rattle.model.specs.Age.{bad-grant, left-of, no-minute, standing-mark, verdict}
+use Rattle.model.specs.Left.{least-left, limit-minus-age}
 use Rattle.model.specs.declared.Grant.{Grant}
+use Rattle.model.proofs.Left.{bounds, far, near, says-old, says-standing, says-young}
 
--- the ways out of the judgement
-module _ (limit now v s : ℕ) where
-  pub says-standing : s ≡ standing-mark → fresh (v % 2 ^ 32) 0 ≡ verdict limit now v s
-  unfolding verdict is-fresh age
-  says-standing e = rw (eq-eqb s standing-mark e)
+-- what is left fits the word
+left-small : (limit a : ℕ) → limit ≤ 10080 → SFits w64 (left-of limit a)
+left-small limit a good = let b = bounds limit a in fits (left-of limit a) (b .0) (b .1)
+  where
+    fits : (z : ℤ) → least-left ≤ℤ z → z ≤ℤ pos limit → SFits w64 z
+    fits (pos n) l k = record { sfits = omega (arith, leb→le n limit (k .le)) }
+    fits (negsuc n) l k = record { sfits = omega (arith, leb→le n (2 ^ 62 - 1) (l .le)) }
 
-  module _ (ne : s ≢ standing-mark) where
-    pub says-ahead : now < s → ahead ≡ verdict limit now v s
-    unfolding verdict is-fresh age
-    says-ahead l = rw (ne-eqb s standing-mark ne, lt-leb s now l, lt-ltb now s l)
+kept : (limit a : ℕ) → limit ≤ 10080 → {z : ℤ} → z ≡ left-of limit a → toZ w64 (ofZ w64 z) ≡ left-of limit a
+kept limit a good e = ap (λ (z : ℤ). toZ w64 (ofZ w64 z)) e ∙ toZ-ofZ w64 (left-of limit a) (left-small limit a good)
 
-    module _ (le : s ≤ now) where
-      pub says-young : now - s ≤ limit → fresh (v % 2 ^ 32) (now - s) ≡ verdict limit now v s
-      unfolding verdict is-fresh age
-      says-young k = rw (ne-eqb s standing-mark ne, le-leb s now le, le-leb (now - s) limit k)
+-- the age is cut before it is taken from the limit
+module _ (limit a : ℕ) (good : limit ≤ 10080) {cut : ℕ} (e : cut ≡ min a (limit + 4611686018427387904)) where
+  at-cut : limit-minus-age limit cut ≡ left-of limit a
+  at-cut =
+      dite (decLe a (limit + 4611686018427387904))
+      (λ h. let q : cut ≡ a = e ∙ min-eq-left h in ap (limit-minus-age limit) q ∙ sym (near limit a h))
+      λ h. let k : limit + 4611686018427387904 ≤ a = omega arith in
+      let q : cut ≡ limit + 4611686018427387904 = e ∙ min-eq-right k in
+      sym (near limit cut (omega arith)) ∙ far limit cut (omega arith) ∙ sym (far limit a k)
 
-      pub says-old : limit < now - s → old (now - s) ≡ verdict limit now v s
-      unfolding verdict is-fresh age
-      says-old k = rw (ne-eqb s standing-mark ne, le-leb s now le, lt-leb (now - s) limit k, le-ltb now s le)
+  minus : toZ w64 limit -ℤ toZ w64 cut ≡ left-of limit a
+  minus =
+      let small : cut ≤ limit + 4611686018427387904 = rw e (min-le-right a (limit + 4611686018427387904)) in
+      ap₂ (λ (y z : ℤ). y -ℤ z) (toZ-pos w64 limit (omega arith)) (toZ-pos w64 cut (omega arith)) ∙ at-cut
+
+  pub left-fits : SFits w64 (toZ w64 limit -ℤ toZ w64 cut)
+  left-fits = subst (SFits w64) (sym minus) (left-small limit a good)
+
+  pub left-told : toZ w64 (ofZ w64 (toZ w64 limit -ℤ toZ w64 cut)) ≡ left-of limit a
+  left-told = kept limit a good minus
+
+-- the ways out of the judgement, as the code has their numbers
+module _ (limit now v s : ℕ) (good : limit ≤ 10080) where
+  pub judged-standing : s ≡ standing-mark → fresh (v % 2 ^ 32) (toZ w64 limit) ≡ verdict limit now v s
+  judged-standing e = ap (fresh (v % 2 ^ 32)) (toZ-pos w64 limit (omega arith)) ∙ says-standing limit now v s e
+
+  module _ (ne : s ≢ standing-mark) (le : s ≤ now) {z : ℤ} (e : z ≡ left-of limit (now - s)) where
+    pub judged-young : now - s ≤ limit → fresh (v % 2 ^ 32) (toZ w64 (ofZ w64 z)) ≡ verdict limit now v s
+    judged-young k = ap (fresh (v % 2 ^ 32)) (kept limit (now - s) good e) ∙ says-young limit now v s ne le k
+
+    pub judged-old : limit < now - s → old (toZ w64 (ofZ w64 z)) ≡ verdict limit now v s
+    judged-old k = ap old (kept limit (now - s) good e) ∙ says-old limit now v s ne le k
 
 -- the minute behind now: 0 behind the largest number
 pub next-minute : (g : Grant) {n : ℕ} → g .minute < 2 ^ 64 → n ≡ (g .minute + 1) % 2 ^ 64 → leb n (g .issued) ≡ bad-grant g

@@ -1,6 +1,7 @@
-// The age of a permission: what is said of a stamp at a minute, under a limit; and the minutes that a set brings.
+// The age of a permission: what is said of a stamp at a minute, under a limit, and how long is left; and the minutes that a set brings.
 ghost use mathlib.Core.Path.{_≡_};
-ghost use Rattle.model.specs.Age.{verdict, bad-time, bad-grant, late, stamp-of};
+ghost use Prim.Native.Nat.{_≤_, min};
+ghost use Rattle.model.specs.Age.{verdict, left-of, bad-time, bad-grant, late, stamp-of};
 ghost use Rattle.model.specs.Answers.{says-fresh};
 ghost use Rattle.model.specs.Said.{said-reading};
 use model::Grant;
@@ -13,28 +14,50 @@ pub fn is_bad_time(limit: u64, minute: u64) -> bool
     (10080 < limit) | (minute == 18446744073709551615)
 }
 
-// What is said of a permission and its stamp.
+fn smaller(a: u64, b: u64) -> u64
+    ensures { λ r. ⌜ r ≡ min a b ⌝ }
+{
+    if a < b {
+        return a;
+    }
+    b
+}
+
+// How long is left: the limit minus the age, and -2^62 where that would be below it. The age is cut before the subtraction, so that
+// nothing wraps and no branch has to be foretold.
+fn left_of(limit: u64, age: u64) -> i64
+    requires { ⌜ limit ≤ 10080 ⌝ }
+    ensures { λ r. ⌜ r ≡ left-of limit age ⌝ }
+{
+    let cut = smaller(age, limit + 4611686018427387904);
+    (limit as i64) - (cut as i64)
+}
+
+// What is said of a permission and its stamp. Requires a limit that refusal 3 lets pass.
 pub fn judged(permission: u64, stamp: u64, limit: u64, minute: u64) -> Reading
+    requires { ⌜ limit ≤ 10080 ⌝ }
     ensures { λ r. ⌜ said-reading r ≡ verdict limit minute permission stamp ⌝ }
 {
     let told = (permission % 4294967296) as u32;
     if stamp == 18446744073709551615 {
+        let whole = limit as i64;
         return Reading::Fresh {
             permission: told,
-            age: 0,
+            left: whole,
         };
     }
     if minute < stamp {
         return Reading::Ahead;
     }
     let age = minute - stamp;
+    let left = left_of(limit, age);
     if age <= limit {
         return Reading::Fresh {
             permission: told,
-            age,
+            left,
         };
     }
-    Reading::Old { age }
+    Reading::Old { left }
 }
 
 // The answer is fresh: serve marks by what it says.
@@ -44,10 +67,10 @@ pub fn is_fresh(told: Reading) -> bool
     match told {
         Reading::Fresh {
             permission: _,
-            age: _,
+            left: _,
         } => true,
         Reading::Absent => false,
-        Reading::Old { age: _ } => false,
+        Reading::Old { left: _ } => false,
         Reading::Ahead => false,
         Reading::Refused(_) => false,
     }

@@ -1,8 +1,8 @@
 -- How long is left: the limit minus the age, -2^62 at the least, and not negative exactly where the age is within the limit; and what is
 -- said of a permission, a law a way. Assumes nothing.
-use Prim.Native.Nat.{ℕ, zero, suc, _-_, _%_, _^_, _<_, _≤_, min}
+use Prim.Native.Nat.{ℕ, zero, suc, _+_, _-_, _%_, _^_, _<_, _≤_, min}
 use native.Mathlib.Omega.{arith}
-use native.Mathlib.Nat.{le-min, le-of-lt, min-eq-left, min-eq-right, min-le-right}
+use native.Mathlib.Nat.{le-min, min-eq-left, min-eq-right, min-le-right}
 use native.Mathlib.Decide.{decLe}
 use mathlib.Core.Path.{_≡_, refl, sym, ap, subst, _∙_}
 use mathlib.Core.Logic.{_≢_, dite}
@@ -34,7 +34,20 @@ pub overdue : (limit a : ℕ) → limit < a → left-of limit a ≡ negℤ (pos 
 unfolding left-of
 overdue limit a h = rw (lt-leb a limit h) refl
 
--- -2^62 and a negative number
+-- up to 2^62 minutes overdue it is the difference, from there on -2^62
+pub near : (limit a : ℕ) → a ≤ limit + 2 ^ 62 → left-of limit a ≡ limit-minus-age limit a
+near limit a h =
+    dite (decLe a limit) (λ l. within limit a l ∙ sym (minus-small limit a l))
+    λ l. let k : limit < a = omega arith in
+    let n : a - limit ≤ 2 ^ 62 = omega arith in
+    overdue limit a k ∙ ap (λ (n : ℕ). negℤ (pos n)) (min-eq-left n) ∙ sym (minus-large limit a k)
+
+pub far : (limit a : ℕ) → limit + 2 ^ 62 ≤ a → left-of limit a ≡ least-left
+far limit a h =
+    let n : 2 ^ 62 ≤ a - limit = omega arith in
+    overdue limit a (omega arith) ∙ ap (λ (n : ℕ). negℤ (pos n)) (min-eq-right n)
+
+-- the same, told by the signed difference itself: where it is -2^62 the two agree
 few : (n : ℕ) → least-left ≤ℤ negℤ (pos n) → n ≤ 2 ^ 62
 few zero h = omega arith
 few (suc k) h = let p : k ≤ 2 ^ 62 - 1 = leb→le k (2 ^ 62 - 1) (h .le) in omega arith
@@ -45,17 +58,14 @@ many (suc k) h = let p : 2 ^ 62 - 1 < k = ltb→lt (2 ^ 62 - 1) k (h .lt) in ome
 
 pub left-is : LeftIs
 left-is limit a h =
-    dite (decLe a limit) (λ l. within limit a l ∙ sym (minus-small limit a l))
-    λ l. let k : limit < a = omega arith in
-    let d = minus-large limit a k in
-    overdue limit a k ∙ ap (λ (n : ℕ). negℤ (pos n)) (min-eq-left (few (a - limit) (subst (λ (z : ℤ). least-left ≤ℤ z) d h))) ∙ sym d
+    near limit a (dite (decLe a limit) (λ l. omega arith) λ l. let k : limit < a = omega arith in
+    omega (arith, few (a - limit) (subst (λ (z : ℤ). least-left ≤ℤ z) (minus-large limit a k) h)))
 
 pub left-least : LeftLeast
 left-least limit a h =
-    dite (decLe a limit) (λ l. absurd (subst (λ (z : ℤ). z <ℤ least-left) (minus-small limit a l) h .lt))
+    far limit a (dite (decLe a limit) (λ l. absurd (subst (λ (z : ℤ). z <ℤ least-left) (minus-small limit a l) h .lt))
     λ l. let k : limit < a = omega arith in
-    let n = many (a - limit) (subst (λ (z : ℤ). z <ℤ least-left) (minus-large limit a k) h) in
-    overdue limit a k ∙ ap (λ (n : ℕ). negℤ (pos n)) (min-eq-right (le-of-lt n))
+    omega (arith, many (a - limit) (subst (λ (z : ℤ). z <ℤ least-left) (minus-large limit a k) h)))
 
 -- its sign
 pub not-negative : (limit a : ℕ) → a ≤ limit → pos 0 ≤ℤ left-of limit a

@@ -1,5 +1,6 @@
 -- `ageing::judged` meets its contract. Assumes nothing.
-use Rattle.ageing.proofs.Judging.{says-standing, says-ahead, says-young, says-old}
+use Rattle.model.proofs.Left.{says-ahead}
+use Rattle.ageing.proofs.Judging.{judged-standing, judged-young, judged-old}
 use borrow.Author.Needs.{needs}
 use Rattle.ageing.proofs.judged.Statement.{statement}
 use Rattle.ageing.proofs.judged.Tie as tie
@@ -8,4 +9,5 @@ pub judged-spec : {M : Type 1} → statement M
 judged-spec =
     tie.close
     (tie.spec
-    (λ c. search needs) (λ c. search says-standing) (λ c. search says-ahead) (λ c. search says-young) (λ c. search says-old))
+    (λ c. search needs) (λ c. search needs) (λ c. search judged-standing) (λ c. search says-ahead) (λ c κs. search needs)
+    (λ c. search judged-young) (λ c. search judged-old))
