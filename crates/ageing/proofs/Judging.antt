@@ -3,20 +3,30 @@ use Prim.Native.Nat.{ℕ, _+_, _^_, _<_, _≤_, _-_, _%_, min}
 use native.Mathlib.Omega.{arith}
 use native.Mathlib.Nat.{min-eq-left, min-eq-right, min-le-right}
 use native.Mathlib.Decide.{ℕ-discrete, decLe}
-use mathlib.Core.Path.{_≡_, sym, ap, ap₂, subst, _∙_}
+use mathlib.Core.Path.{_≡_, refl, sym, ap, ap₂, subst, _∙_}
 use mathlib.Core.Logic.{_≢_, dite}
+use mathlib.Core.Bool.{Bool, true, false, _||_}
 use lib.IntN.{ℤ, pos, negsuc, _-ℤ_}
 use lib.Signed.{_≤ℤ_}
-use lib.Dec.{leb, leb→le}
-use borrow.Author.Tests.{lt-ltb, le-ltb, eq-eqb, ne-eqb, le-leb, lt-leb}
+use lib.Dec.{eqb, leb, leb→le, ltb}
+use borrow.Author.Tests.{lt-ltb, le-ltb, ltb-false, eq-eqb, ne-eqb, le-leb, lt-leb}
 use mir.Syntax.{w64}
 use mir.Val.{toZ, ofZ, SFits}
 use mir.ValLaws.{toZ-pos, toZ-ofZ}
 use Rattle.model.specs.Answers.{fresh, old}
-use Rattle.model.specs.Age.{bad-grant, left-of, no-minute, standing-mark, verdict}
+use Rattle.model.specs.Age.{bad-grant, bad-time, left-of, no-minute, standing-mark, verdict}
 use Rattle.model.specs.Left.{least-left, limit-minus-age}
 use Rattle.model.specs.declared.Grant.{Grant}
+use Rattle.model.proofs.ListLaws.{true-false}
 use Rattle.model.proofs.Left.{bounds, far, near, says-old, says-standing, says-young}
+
+-- a limit that refusal 3 lets pass
+pub good-limit : (limit now : ℕ) → bad-time limit now ≡ false → limit ≤ 10080
+good-limit limit now e = by (ltb 10080 limit) (eqb now no-minute) (ltb-false 10080 limit) e
+  where
+    by : (b c : Bool) → (b ≡ false → limit ≤ 10080) → (b || c) ≡ false → limit ≤ 10080
+    by true c h e = true-false refl e
+    by false c h e = h refl
 
 -- what is left fits the word
 left-small : (limit a : ℕ) → limit ≤ 10080 → SFits w64 (left-of limit a)

@@ -6,6 +6,7 @@ use mathlib.Core.Path.{_≡_, refl, sym, subst, _∙_}
 use mathlib.Core.Logic.{dite}
 use mathlib.Core.Bool.{Bool, true, false}
 use mathlib.Core.Option.{Option, none, some}
+use mathlib.Core.List.{List}
 use lib.IntN.{ℤ, pos}
 use lib.Signed.{_≤ℤ_, _<ℤ_, clashℤ}
 use lib.Dec.{eqb}
@@ -23,7 +24,7 @@ use Rattle.model.proofs.Left.{bounds, negative, not-negative, says-ahea
 use Rattle.model.proofs.Runs.{serve-reads}
 
 -- an answer without a number
-untold : (limit : ℕ) (a : Answer) → paper a .signed ≡ none → TellsTime limit a
+pub untold : (limit : ℕ) (a : Answer) → paper a .signed ≡ none → TellsTime limit a
 untold limit a n z e = absurd (none-some (sym n ∙ e))
   where
     none-some : none ≡ some z → ⊥
@@ -62,24 +63,25 @@ module _ (limit : ℕ) where
       said : {a : Answer} → a ≡ verdict limit now v s → TellsTime limit a → TellsTime limit (verdict limit now v s)
       said e t = subst (TellsTime limit) e t
 
+  -- whatever place was found
+  pub judge-timely : (l : List ℕ) (now : ℕ) (o : Option ℕ) → TellsTime limit (judge l limit now o)
+  judge-timely l now none = untold limit absent refl
+  judge-timely l now (some p) = verdict-timely now (permission l p) (stamp l p)
+
+  pub refusal-untold : (n : ℕ) → TellsTime limit (refused n)
+  refusal-untold n = untold limit (refused n) refl
+
 module _ (Y : Shape) (m : Mem) (x limit now : ℕ) where
-  refusal : (n : ℕ) → TellsTime limit (refused n)
-  refusal n = untold limit (refused n) refl
-
-  judged : (o : Option ℕ) → TellsTime limit (judge (m .items) limit now o)
-  judged none = untold limit absent refl
-  judged (some p) = verdict-timely limit now (permission (m .items) p) (stamp (m .items) p)
-
   reads : TellsTime limit (call Y m (read x limit now) .answer)
   reads = asks (eqb x 0) (bad-time limit now) (busy Y m x) (home-damage Y m x)
     where
       asks : (b c d f : Bool)
           → TellsTime limit (choose b (refuse 2) (choose c (refuse 3) (choose d (refuse 8) (choose f (refuse 4) (tell (judge (m .items) limit now (held Y m x)))))) .answer)
-      asks true c d f = refusal 2
-      asks false true d f = refusal 3
-      asks false false true f = refusal 8
-      asks false false false true = refusal 4
-      asks false false false false = judged (held Y m x)
+      asks true c d f = refusal-untold limit 2
+      asks false true d f = refusal-untold limit 3
+      asks false false true f = refusal-untold limit 8
+      asks false false false true = refusal-untold limit 4
+      asks false false false false = judge-timely limit (m .items) now (held Y m x)
 
 pub fresh-iff-left : (W : Ways) → FreshIffLeft (ours W)
 fresh-iff-left W m x limit now = go (right-lengths W m)
@@ -90,4 +92,4 @@ fresh-iff-left W m x limit now = go (right-lengths W m)
     go : (b : Bool) → TellsTime limit (choose b (call Y m (read x limit now)) (refuse 1) .answer)
         × TellsTime limit (choose b (call Y m (serve x limit now)) (refuse 1) .answer)
     go true = let t = reads Y m x limit now in (t, subst (TellsTime limit) (sym (serve-reads Y m x limit now)) t)
-    go false = let t = refusal Y m x limit now 1 in (t, t)
+    go false = let t = refusal-untold limit 1 in (t, t)

@@ -2,7 +2,7 @@
 use Prim.Native.Nat.{ℕ, zero, suc, _+_, _/_, _<_, _≤_}
 use native.Mathlib.Omega.{arith}
 use native.Mathlib.Decide.{ℕ-discrete}
-use mathlib.Core.Path.{_≡_, refl, sym, ap, _∙_}
+use mathlib.Core.Path.{_≡_, refl, sym, ap, subst, _∙_}
 use mathlib.Core.Logic.{_≢_, dite}
 use mathlib.Core.Bool.{Bool, true, false}
 use mathlib.Core.Option.{Option, none, some}
@@ -17,12 +17,14 @@ use Rattle.model.specs.Answers.{Answer, absent, fresh, paper, refused}
 use Rattle.model.specs.Age.{bad-time, judge, no-minute}
 use Rattle.model.specs.Row.{walk-to}
 use Rattle.model.specs.Demands.{Holds}
+use Rattle.model.specs.Left.{TellsTime}
 use Rattle.model.proofs.ListLaws.{First, found, in-range, missing, true-false, walk-is}
 use Rattle.model.proofs.Clock.{or-true}
 use Rattle.model.proofs.Demand1.{is-refusal, judged, small-number}
 use Rattle.model.proofs.RowWords.{says-mod}
 use Rattle.model.proofs.Runs.{not-fresh}
 use Rattle.model.proofs.FreshAnywhere.{held-in-time}
+use Rattle.model.proofs.FreshIffLeft.{judge-timely, refusal-untold}
 use Rattle.plain.specs.Plain.{plain-read}
 use Rattle.plain.specs.Owed.{Answered, PlainFresh, PlainSays}
 
@@ -94,14 +96,23 @@ module _ (l : List ℕ) (x limit now : ℕ) where
   plain-small = small-number (plain-read l x limit now) (1 ∷ 2 ∷ 3 ∷ []) (plain-says .no-other) refl
 
   pub plain-fresh : PlainFresh l x limit now
-  plain-fresh v a e = go (good-items (length l)) (eqb x 0) (bad-time limit now) (eqb-false x 0) (sym (by-tests refl refl refl) ∙ e)
+  plain-fresh v z e = go (good-items (length l)) (eqb x 0) (bad-time limit now) (eqb-false x 0) (sym (by-tests refl refl refl) ∙ e)
     where
-      at : x ≢ 0 → {o : Option ℕ} → First (λ p. eqb (animal l p) x) (range 0 (length l / 4)) o → judge l limit now o ≡ fresh v a → (p : ℕ) × Holds l x limit now v p
-      at nz (missing h) e = not-fresh l x limit now v a absent refl e
-      at nz (found {i = p} q t) e = (p, held-in-time l x limit now v a p nz (eqb-true (animal l p) x t) e)
+      at : x ≢ 0 → {o : Option ℕ} → First (λ p. eqb (animal l p) x) (range 0 (length l / 4)) o → judge l limit now o ≡ fresh v z → (p : ℕ) × Holds l x limit now v p
+      at nz (missing h) e = not-fresh l x limit now v z absent refl e
+      at nz (found {i = p} q t) e = (p, held-in-time l x limit now v z p nz (eqb-true (animal l p) x t) e)
 
-      go : (g z b : Bool) → (z ≡ false → x ≢ 0) → by g z b place ≡ fresh v a → (p : ℕ) × Holds l x limit now v p
-      go false z b nz e = not-fresh l x limit now v a (refused 1) refl e
-      go true true b nz e = not-fresh l x limit now v a (refused 2) refl e
-      go true false true nz e = not-fresh l x limit now v a (refused 3) refl e
+      go : (g n b : Bool) → (n ≡ false → x ≢ 0) → by g n b place ≡ fresh v z → (p : ℕ) × Holds l x limit now v p
+      go false n b nz e = not-fresh l x limit now v z (refused 1) refl e
+      go true true b nz e = not-fresh l x limit now v z (refused 2) refl e
+      go true false true nz e = not-fresh l x limit now v z (refused 3) refl e
       go true false false nz e = at (nz refl) (walk-is l x (length l / 4) 0) e
+
+  pub plain-left : TellsTime limit (plain-read l x limit now)
+  plain-left = subst (TellsTime limit) (sym (by-tests refl refl refl)) (go (good-items (length l)) (eqb x 0) (bad-time limit now))
+    where
+      go : (g n b : Bool) → TellsTime limit (by g n b place)
+      go false n b = refusal-untold limit 1
+      go true true b = refusal-untold limit 2
+      go true false true = refusal-untold limit 3
+      go true false false = judge-timely limit l now place

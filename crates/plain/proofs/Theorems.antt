@@ -15,5 +15,6 @@ owed =
       eight-agrees = same.eight-plain;
       agrees-or-apart = why.plain-or-apart;
       fresh-anywhere = says.plain-fresh;
+      fresh-iff-left = says.plain-left;
       all-hold = written.all-hold;
     }

@@ -6,6 +6,7 @@ use mathlib.Core.Logic.{_≢_, _⊎_}
 use mathlib.Core.Bool.{true, false}
 use mathlib.Core.List.{List, [], _∷_}
 use lib.ListN.{length}
+use lib.IntN.{ℤ}
 use Rattle.model.specs.Choice.{one-of}
 use Rattle.model.specs.Memory.{Mem, animal, permission, stamp}
 use Rattle.model.specs.Shape.{Ways, eight, four, good-items, right-lengths, shape-of}
@@ -18,6 +19,7 @@ use Rattle.model.specs.WellFormed.{WellFormed}
 use Rattle.model.specs.AnyTable.{Table}
 use Rattle.model.specs.Demands.{Holds, Story, reads, table}
 use Rattle.model.specs.Ours.{gate, ours}
+use Rattle.model.specs.Left.{TellsTime}
 use Rattle.model.specs.Examples.{AllHold}
 use Rattle.plain.specs.Plain.{plain-read}
 use Rattle.plain.specs.Examples.{plain-examples, side-by-side}
@@ -53,7 +55,7 @@ module _ (l : List ℕ) (x limit now : ℕ) where
 
   -- fresh is said only if some place holds that number, standing or in time, with that permission modulo 2^32
   abbrev pub PlainFresh : Type 0
-  PlainFresh = (v a : ℕ) → said ≡ fresh v a → (p : ℕ) × Holds l x limit now v p
+  PlainFresh = (v : ℕ) (z : ℤ) → said ≡ fresh v z → (p : ℕ) × Holds l x limit now v p
 
 module _ (W : Ways) where
   -- on every well-formed memory it says what read says, for every number, limit and minute
@@ -92,5 +94,7 @@ pub record Owed : Type 0 where
   -- beyond the wish
   pub agrees-or-apart : (W : Ways) (m : Mem) (x limit now : ℕ) → AgreesOrApart W m x limit now
   pub fresh-anywhere : (l : List ℕ) (x limit now : ℕ) → PlainFresh l x limit now
+  -- wish 4: it says fresh exactly if what is left is not negative
+  pub fresh-iff-left : (l : List ℕ) (x limit now : ℕ) → TellsTime limit (plain-read l x limit now)
   -- the rows at the wish's edges
   pub all-hold : AllHold plain-examples × AllHold side-by-side

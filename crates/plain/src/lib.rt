@@ -20,6 +20,7 @@ fn is_good_length(words: usize) -> bool
 // A place is judged as read judges its hit.
 fn judged_at(items: &[u64], p: usize, limit: u64, minute: u64) -> Reading
     requires { ⌜ 4 * p + 4 ≤ length (now items) ⌝ }
+    requires { ⌜ limit ≤ 10080 ⌝ }
     ensures { λ r. ⌜ said-reading r ≡ verdict limit minute (permission (now (items .entry)) p) (stamp (now (items .entry)) p) ⌝ }
 {
     ageing::judged(items[4 * p + 1], items[4 * p + 2], limit, minute)
