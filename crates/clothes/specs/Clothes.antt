@@ -1,5 +1,7 @@
 -- The C clothes of an answer: document 01's number and values of it, as the fields of a reply. Assumes nothing.
 use Prim.Native.Nat.{ℕ}
+use mathlib.Core.Option.{Option, none, some}
+use lib.IntN.{ℤ, pos}
 use Rattle.model.specs.Choice.{choose}
 use Rattle.model.specs.Answers.{Answer, hand-back, is, paper, value}
 use Rattle.clothes.specs.declared.BoughladderReading.{BoughladderReading}
@@ -12,16 +14,20 @@ use Rattle.clothes.specs.declared.BoughladderListing.{BoughladderListing
 abbrev pub number : Answer → ℕ
 number a = paper a .number
 
--- the permission and the age that a reading tells: 0 where it tells none
+-- the permission that a reading tells and how long is left: 0 where it tells none
 abbrev pub permission-told : Answer → ℕ
 permission-told a = choose (is 1 a) (value a 1) 0
 
-abbrev pub age-told : Answer → ℕ
-age-told a = choose (is 1 a) (value a 2) (choose (is 2 a) (value a 1) 0)
+abbrev pub or-zero : Option ℤ → ℤ
+or-zero none = pos 0
+or-zero (some z) = z
+
+abbrev pub left-told : Answer → ℤ
+left-told a = or-zero (paper a .signed)
 
 -- read, serve and the plain engine
 abbrev pub reading-clothes : Answer → BoughladderReading
-reading-clothes a = record { refusal = number a; kind = value a 0; permission = permission-told a; age = age-told a }
+reading-clothes a = record { refusal = number a; kind = value a 0; permission = permission-told a; left = left-told a }
 
 -- find
 abbrev pub finding-clothes : Answer → BoughladderFinding

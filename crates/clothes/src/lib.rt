@@ -14,13 +14,13 @@ use model::Starting;
 
 // The replies. In each, `refusal` is document 01's number, 0 for success; what a call does not tell is 0.
 
-// Read, serve and the plain engine, in two registers. The kind is 0 absent, 1 fresh, 2 old, 3 ahead.
+// Read, serve and the plain engine, in two registers. The kind is 0 absent, 1 fresh, 2 old, 3 ahead; left tells something of fresh and old only.
 #[repr(C)]
 pub struct BoughladderReading {
     pub refusal: u16,
     pub kind: u16,
     pub permission: u32,
-    pub age: u64,
+    pub left: i64,
 }
 
 // Find. The kind is 0 absent, 9 at a place.
@@ -63,31 +63,31 @@ pub fn dress_reading(told: Reading) -> BoughladderReading
             refusal: 0,
             kind: 0,
             permission: 0,
-            age: 0,
+            left: 0,
         },
-        Reading::Fresh { permission, age } => BoughladderReading {
+        Reading::Fresh { permission, left } => BoughladderReading {
             refusal: 0,
             kind: 1,
             permission,
-            age,
+            left,
         },
-        Reading::Old { age } => BoughladderReading {
+        Reading::Old { left } => BoughladderReading {
             refusal: 0,
             kind: 2,
             permission: 0,
-            age,
+            left,
         },
         Reading::Ahead => BoughladderReading {
             refusal: 0,
             kind: 3,
             permission: 0,
-            age: 0,
+            left: 0,
         },
         Reading::Refused(n) => BoughladderReading {
             refusal: n as u16,
             kind: 0,
             permission: 0,
-            age: 0,
+            left: 0,
         },
     }
 }

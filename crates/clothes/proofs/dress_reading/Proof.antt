@@ -12,4 +12,4 @@ dress-reading-spec =
     tie.close
     (tie.spec
     (λ c. search needs) (λ c. search needs) (λ c. search needs) (λ c. search needs) (λ c. search needs) cast-t7 (λ c. search reading-dressed)
-    (λ c. search reading-dressed) (λ c. search reading-dressed) (λ c. search reading-dressed) (λ c. search reading-dressed))
+    (λ c. search (needs, reading-dressed)) (λ c. search (needs, reading-dressed)) (λ c. search reading-dressed) (λ c. search reading-dressed))
