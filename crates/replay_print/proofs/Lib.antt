@@ -1,4 +1,5 @@
 pub mod Examples
 pub mod Printing
+pub mod Signed
 pub mod Lines
 pub mod Records

@@ -3,6 +3,7 @@ use Prim.Native.Nat.{ℕ, zero, suc, _+_, _-_, _/_, _%_}
 use Prim.Native.Char.{code}
 use mathlib.Core.List.{List, [], _∷_, _++_}
 use lib.ListN.{take, drop}
+use lib.IntN.{ℤ, pos, negsuc}
 use lib.Dec.{ltb}
 use Rattle.model.specs.Choice.{choose}
 use Rattle.replay_print.specs.Text.{bytes}
@@ -16,6 +17,11 @@ digits (suc f) (suc x) = digits f (suc x / 10) ++ ((code "0" + suc x % 10) ∷ [
 unfoldable pub decimal-of : ℕ → List ℕ
 decimal-of zero = bytes "0"
 decimal-of (suc x) = digits (suc x) (suc x)
+
+-- a signed number: a minus stands before the digits of a negative one
+unfoldable pub signed-of : ℤ → List ℕ
+signed-of (pos n) = decimal-of n
+signed-of (negsuc n) = bytes "-" ++ decimal-of (suc n)
 
 -- 0 to 9, then a to f
 unfoldable pub hex-digit : ℕ → ℕ
@@ -37,6 +43,10 @@ numbered word n = word ++ bytes " " ++ decimal-of n
 unfoldable pub told : List ℕ → List ℕ → List ℕ
 told word [] = line word
 told word (n ∷ ns) = told (numbered word n) ns
+
+-- the line of words and a signed number
+abbrev pub signed-line : List ℕ → ℤ → List ℕ
+signed-line words z = line (words ++ bytes " " ++ signed-of z)
 
 -- two digits for each byte
 unfoldable pub hexes : List ℕ → List ℕ

@@ -3,8 +3,10 @@ ghost use mathlib.Core.Path.{_≡_};
 ghost use Prim.Native.Nat.{_+_, _*_, _%_, _<_, _≤_};
 ghost use mathlib.Core.List.{[]};
 ghost use lib.ListN.{length};
+ghost use lib.IntN.{pos, natAbs};
+ghost use lib.Signed.{_<ℤ_};
 ghost use Rattle.buffer.specs.Put.{Put};
-ghost use Rattle.replay_print.specs.Print.{decimal-of, hex-digit, hex-of, line, numbered, told, hexes, record-lines};
+ghost use Rattle.replay_print.specs.Print.{decimal-of, signed-of, hex-digit, hex-of, line, numbered, told, signed-line, hexes, record-lines};
 
 // The last decimal digit of a number.
 fn digit(x: u64) -> u8
@@ -30,6 +32,26 @@ pub fn put_decimal(buffer: &mut [u8], at: usize, x: u64) -> usize
     let first = 19 - n;
     digits[first] = digit(rest);
     buffer::put_bytes(buffer, at, &digits[first..])
+}
+
+// The size of a negative number: its bits turned over, and one more, so that the least number has one too.
+fn size(z: i64) -> u64
+    requires { ⌜ z <ℤ pos 0 ⌝ }
+    ensures { λ r. ⌜ r ≡ natAbs z ⌝ }
+{
+    (!z) as u64 + 1
+}
+
+// A signed number from `at` on; the position behind it.
+fn put_signed(buffer: &mut [u8], at: usize, z: i64) -> usize
+    requires { ⌜ at + 21 ≤ length (now buffer) ⌝ }
+    ensures { λ r. ⌜ Put (signed-of z) at (now (buffer .entry)) (now (buffer .exit)) r × (r ≤ at + 21) ⌝ }
+{
+    if z < 0 {
+        let behind = buffer::put_bytes(buffer, at, b"-");
+        return put_decimal(buffer, behind, size(z));
+    }
+    put_decimal(buffer, at, z as u64)
 }
 
 fn hex_digit(n: u8) -> u8
@@ -121,6 +143,17 @@ pub fn put_told32(buffer: &mut [u8], at: usize, word: &[u8], numbers: &[u32]) ->
 {
     let behind = buffer::put_bytes(buffer, at, word);
     put_numbers32(buffer, behind, numbers)
+}
+
+// A line of words and a signed number.
+pub fn put_signed_line(buffer: &mut [u8], at: usize, words: &[u8], z: i64) -> usize
+    requires { ⌜ at + length (now words) + 23 ≤ length (now buffer) ⌝ }
+    ensures { λ r. ⌜ Put (signed-line (now (words .entry)) z) at (now (buffer .entry)) (now (buffer .exit)) r × (r ≤ at + length (now (words .entry)) + 23) ⌝ }
+{
+    let behind_words = buffer::put_bytes(buffer, at, words);
+    let behind_space = buffer::put_bytes(buffer, behind_words, b" ");
+    let behind = put_signed(buffer, behind_space, z);
+    put_line(buffer, behind, b"")
 }
 
 // The bytes of a record, two digits each, on a line.
