@@ -2,17 +2,20 @@
 use mathlib.Core.Path.{_≡_, refl}
 use mathlib.Core.Bool.{true, false}
 use mathlib.Core.List.{[], _∷_}
+use lib.IntN.{pos, negsuc}
 use Rattle.model.specs.Memory.{mem}
 use Rattle.model.specs.Answers.{refused, absent, fresh, old, ahead, stored, deleted, evicted, started, listed}
 use Rattle.replay_print.specs.Text.{bytes}
-use Rattle.replay_print.specs.Print.{decimal-of, digits, hex-digit, hex-of, hexes, numbered, record-lines, told}
+use Rattle.replay_print.specs.Print.{decimal-of, digits, hex-digit, hex-of, hexes, numbered, record-lines, signed-of, told}
 use Rattle.replay_answers.specs.Text.{dump, not-understood, poke-told, reason, text}
 
 pub lines :
     (text (refused 10) ≡ bytes "refused 10\n")
     × (text absent ≡ bytes "absent\n")
-    × (text (fresh 4294967295 0) ≡ bytes "fresh 4294967295 0\n")
-    × (text (old 30) ≡ bytes "old 30\n")
+    × (text (fresh 4294967295 (pos 0)) ≡ bytes "fresh 4294967295 0\n")
+    × (text (fresh 1 (pos 10080)) ≡ bytes "fresh 1 10080\n")
+    × (text (old (negsuc 0)) ≡ bytes "old -1\n")
+    × (text (old (negsuc 4611686018427387903)) ≡ bytes "old -4611686018427387904\n")
     × (text ahead ≡ bytes "ahead\n")
     × (text (stored 682 4) ≡ bytes "stored 682 4\n")
     × (text deleted ≡ bytes "deleted\n")
@@ -27,5 +30,5 @@ pub lines :
     × (dump (mem (65536 ∷ 0 ∷ []) (2 ∷ []) (7 ∷ 5 ∷ 2 ∷ 1 ∷ [])) ≡ bytes "slots 65536 0\ncounters 2\nitems 7 5 2 1\n")
     × (poke-told true ≡ bytes "poked\n")
     × (poke-told false ≡ bytes "no such word\n")
-unfolding told numbered decimal-of digits record-lines hexes hex-of hex-digit reason
-lines = (refl, refl, refl, refl, refl, refl, refl, refl, refl, refl, refl, refl, refl, refl, refl, refl, refl)
+unfolding told numbered decimal-of signed-of digits record-lines hexes hex-of hex-digit reason
+lines = (refl, refl, refl, refl, refl, refl, refl, refl, refl, refl, refl, refl, refl, refl, refl, refl, refl, refl, refl)

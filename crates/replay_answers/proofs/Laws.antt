@@ -1,20 +1,27 @@
 -- Laws on the lines of answers. Assumes nothing.
 use Prim.Native.Nat.{ℕ, _+_, _*_, _≤_}
 use native.Mathlib.Omega.{arith}
-use mathlib.Core.Path.{_≡_, sym}
+use mathlib.Core.Path.{_≡_, sym, _∙_}
 use mathlib.Core.Logic.{_≢_}
-use mathlib.Core.List.{List}
+use mathlib.Core.List.{List, [], _++_, append-assoc}
 use lib.ListN.{length, take}
 use lib.Seq.{length-take-le}
+use lib.IntN.{ℤ}
 use borrow.Author.Tests.{ne-eqb}
+use mir.Syntax.{w64}
+use mir.Val.{SFits, ofZ, toZ}
+use mir.ValLaws.{toZ-ofZ}
 use Rattle.model.specs.Memory.{Mem}
+use Rattle.model.specs.Said.{said-reading}
+use Rattle.model.specs.declared.Reading.{Reading}
+use Rattle.model.specs.declared.Reading.the-variants as reading
 use Rattle.model.specs.declared.Listing.{Listing}
 use Rattle.model.specs.declared.Listing.the-variants.{Listed}
 use Rattle.buffer.specs.Put.{Put}
 use Rattle.buffer.proofs.Putting.{put-both}
 use Rattle.replay_print.specs.Text.{bytes}
-use Rattle.replay_print.specs.Print.{line, numbered, told}
-use Rattle.replay_answers.specs.Text.{Counted, dump, not-understood, reason}
+use Rattle.replay_print.specs.Print.{line, numbered, signed-line, signed-of, told}
+use Rattle.replay_answers.specs.Text.{Counted, dump, not-understood, reason, text}
 
 -- what is known is told as itself
 pub as-known : {A : Type 0} (f : A → List ℕ) {said known : A} {at r : ℕ} {before after : List ℕ} → said ≡ known → Put (f known) at before after r
@@ -25,10 +32,24 @@ pub as-beside : {A B : Type 0} (f : A → B → List ℕ) (b : B) {said known : 
     → Put (f known b) at before after r → Put (f said b) at before after r
 as-beside f b = as-known (λ s. f s b)
 
+-- words and the rest of a line with a signed number are the line
+signed-behind : (words : List ℕ) (z : ℤ) → signed-line words z ≡ words ++ signed-line [] z
+signed-behind words z =
+    append-assoc (words ++ bytes " ") (signed-of z) (bytes "\n") ∙ append-assoc words (bytes " ") (signed-of z ++ bytes "\n")
+
 module _ {at r : ℕ} {before after : List ℕ} where
   -- a line of words is short
   pub short : (k : ℕ) (words : List ℕ) → Put (line words) at before after r → length (line words) ≤ k → r ≤ at + k
   short k words p h = omega (arith, p .next)
+
+  -- a reading that tells how long is left, as the code holds the number
+  module _ {said : Reading} {z : ℤ} (f : SFits w64 z) where
+    pub told-fresh : {middle : List ℕ} {s v : ℕ} → said ≡ reading.Fresh v z → Put (numbered (bytes "fresh") v) at before middle s
+        → Put (signed-line [] (toZ w64 (ofZ w64 z))) s middle after r → Put (text (said-reading said)) at before after r
+    told-fresh {v = v} e p q = rw (e, signed-behind (numbered (bytes "fresh") v) z) (put-both p (rw (toZ-ofZ w64 z f) at q))
+
+    pub told-old : said ≡ reading.Old z → Put (signed-line (bytes "old") (toZ w64 (ofZ w64 z))) at before after r → Put (text (said-reading said)) at before after r
+    told-old e q = rw e (rw (toZ-ofZ w64 z f) at q)
 
   pub put-line-number : {first second : List ℕ} {s t : ℕ} (n y : ℕ) → Put (numbered (bytes "line") n) at before first s
       → Put (bytes ": not understood: ") s first second t → Put (line (reason y)) t second after r → Put (not-understood n y) at before after r

@@ -10,14 +10,14 @@ use Rattle.model.specs.Answers.{Answer, refused, absent, fresh, old, ahead, sto
 use Rattle.model.specs.declared.Listing.{Listing}
 use Rattle.model.specs.declared.Listing.the-variants as list
 use Rattle.replay_print.specs.Text.{bytes}
-use Rattle.replay_print.specs.Print.{decimal-of, line, record-lines, told}
+use Rattle.replay_print.specs.Print.{decimal-of, line, numbered, record-lines, signed-line, told}
 
 -- the line of an answer; behind that of a list its records
 abbrev pub text : Answer → List ℕ
 text (refused n) = told (bytes "refused") (n ∷ [])
 text absent = line (bytes "absent")
-text (fresh p a) = told (bytes "fresh") (p ∷ a ∷ [])
-text (old a) = told (bytes "old") (a ∷ [])
+text (fresh p z) = signed-line (numbered (bytes "fresh") p) z
+text (old z) = signed-line (bytes "old") z
 text ahead = line (bytes "ahead")
 text (stored v n) = told (bytes "stored") (v ∷ n ∷ [])
 text deleted = line (bytes "deleted")

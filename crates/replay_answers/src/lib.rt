@@ -28,14 +28,11 @@ pub fn put_reading(buffer: &mut [u8], at: usize, said: Reading) -> usize
 {
     match said {
         Reading::Absent => replay_print::put_line(buffer, at, b"absent"),
-        Reading::Fresh { permission, age } => {
-            let numbers = [permission as u64, age];
-            replay_print::put_told(buffer, at, b"fresh", &numbers)
+        Reading::Fresh { permission, left } => {
+            let behind = replay_print::put_numbered(buffer, at, b"fresh", permission as u64);
+            replay_print::put_signed_line(buffer, behind, b"", left)
         }
-        Reading::Old { age } => {
-            let numbers = [age];
-            replay_print::put_told(buffer, at, b"old", &numbers)
-        }
+        Reading::Old { left } => replay_print::put_signed_line(buffer, at, b"old", left),
         Reading::Ahead => replay_print::put_line(buffer, at, b"ahead"),
         Reading::Refused(n) => put_refused(buffer, at, n as u64),
     }
