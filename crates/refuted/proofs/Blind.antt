@@ -8,6 +8,7 @@ use mathlib.Core.Logic.{_≢_, _⊎_, inl, inr, ⊎-elim, dite}
 use mathlib.Core.Bool.{true, false}
 use mathlib.Core.Option.{some}
 use mathlib.Core.List.{List, [], _∷_, append-nil}
+use lib.IntN.{ℤ}
 use lib.ListN.{length, take, replicate}
 use lib.Seq.{take-nil, take-append-le, set-comm}
 use Rattle.model.specs.Memory.{Mem, mem, place, stamp, word}
@@ -236,12 +237,12 @@ module _ (W : Ways) where
         (our-row W .as-row s e t)
 
     -- it says fresh only of a held permission in time
-    freshes : (x limit now v a : ℕ)
-        → (B .answer (table W B s) (did (read x limit now)) ≡ fresh v a) ⊎ (B .answer (table W B s) (did (serve x limit now)) ≡ fresh v a)
+    freshes : (x limit now v : ℕ) (z : ℤ)
+        → (B .answer (table W B s) (did (read x limit now)) ≡ fresh v z) ⊎ (B .answer (table W B s) (did (serve x limit now)) ≡ fresh v z)
         → (p : ℕ) × (p < places W s) × Allowed (row W B s) x limit now v p
-    freshes x limit now v a =
-        over (λ m l. (O .answer m (did (read x limit now)) ≡ fresh v a) ⊎ (O .answer m (did (serve x limit now)) ≡ fresh v a)
-        → (p : ℕ) × (p < places W s) × Allowed l x limit now v p) (our-row W .fresh-only s x limit now v a)
+    freshes x limit now v z =
+        over (λ m l. (O .answer m (did (read x limit now)) ≡ fresh v z) ⊎ (O .answer m (did (serve x limit now)) ≡ fresh v z)
+        → (p : ℕ) × (p < places W s) × Allowed l x limit now v p) (our-row W .fresh-only s x limit now v z)
 
     -- and its reads at a cut are those that demand 2 allows
     cuts : (c : Call) → Typed c → (k x limit now : ℕ)

@@ -8,6 +8,7 @@ use mathlib.Core.Bool.{true, false}
 use mathlib.Core.Option.{none, some}
 use mathlib.Core.List.{List, [], _∷_, _++_}
 use lib.ListN.{getD, replicate}
+use lib.IntN.{ℤ, natAbs, pos}
 use Rattle.model.specs.Choice.{first, range}
 use Rattle.model.specs.Memory.{Mem, damaged, mem, place, tag}
 use Rattle.model.specs.Hash.{bytes, fnv, fnv-step, hash, odd-up, other-bucket, spread, tag-from}
@@ -17,9 +18,9 @@ use Rattle.model.specs.Moves.{Free}
 use Rattle.model.specs.Visits.{climb, first-free, free-slot, hops, lowest, next-level, visits}
 use Rattle.model.specs.Calling.{AllTyped, Call, Event, did, read, set-animal, grant}
 use Rattle.model.specs.Answers.{Answer, absent, fresh, refused, stored, says-fresh}
-use Rattle.model.specs.Age.{age, is-fresh, verdict}
+use Rattle.model.specs.Age.{age, is-fresh, left-of, verdict}
 use Rattle.model.specs.Calls.{hit, hits, vacant-place}
-use Rattle.model.specs.Row.{beyond, plain, row-event, row-says, walk-to}
+use Rattle.model.specs.Row.{beyond, plain, row-event, row-left, row-says, walk-to}
 use Rattle.model.specs.AnyTable.{Table, Write, cut-at, leaves, make-all}
 use Rattle.model.specs.Demands.{CutReads, Demand2, Demand3, NeverLost, Position, SeenBy, Stands, Story, places, row, table, visit, shape-in, GoodInputs}
 use Rattle.model.specs.Examples.{held-items, vacant-words}
@@ -33,7 +34,7 @@ use Rattle.refuted.proofs.Blind.{source-first-2}
 -- one name for all that a run computes with
 unfoldable pub computing : Unit {0}
 unfolding hash fnv fnv-step bytes tag-from odd-up spread other-bucket tag place damaged range first good-lengths good-slots good-counters
-    good-items hits hit vacant-place visits next-level hops first-free free-slot lowest climb is-fresh age verdict stores walk-to row-says
+    good-items hits hit vacant-place visits next-level hops first-free free-slot lowest climb is-fresh age left-of verdict stores walk-to row-left row-says
 computing = tt
 
 -- memory as it may be lent, full of old words
@@ -131,8 +132,8 @@ twelve-held =
     ∷ 5636104 ∷ 14745609 ∷ 4259850 ∷ 13369355 ∷ []) (24 ∷ []) (held-items 1 twelve-animals ++ vacant-words)
 
 -- absent is not fresh
-not-fresh : (v a : ℕ) → absent ≡ fresh v a → ⊥
-not-fresh v a e = true-false {b = false} (ap says-fresh e) refl
+not-fresh : (v : ℕ) (z : ℤ) → absent ≡ fresh v z → ⊥
+not-fresh v z e = true-false {b = false} (ap says-fresh e) refl
 
 -- absent is no refusal
 not-refused : (n : ℕ) → absent ≡ refused n → ⊥
@@ -165,13 +166,13 @@ pub says-absent-2 : (T : Table) (v n : ℕ) → T .answer (table four T none-yet
     → plain (T .answer (table four T one-in) read-one) ≡ absent → Demand2 four T → ⊥
 unfolding computing
 says-absent-2 T v n e r D =
-    not-fresh 5 0 (sym r ∙ D .as-row one-in read-one (tt, tt)
+    not-fresh 5 (pos 720) (sym r ∙ D .as-row one-in read-one (tt, tt)
     ∙ ap (λ b. row-event 3 0 (row-event 3 b (replicate 12 0) set-one .words) read-one .answer) (ap beyond e))
 
 -- any table at all that says fresh of an animal before any was set breaks demand 2
-pub says-fresh-2 : (T : Table) (v a : ℕ) → T .answer (table four T none-yet) read-one ≡ fresh v a → Demand2 four T → ⊥
+pub says-fresh-2 : (T : Table) (v : ℕ) (z : ℤ) → T .answer (table four T none-yet) read-one ≡ fresh v z → Demand2 four T → ⊥
 unfolding computing
-says-fresh-2 T v a e D = not-fresh v a (sym (D .as-row none-yet read-one (tt, tt)) ∙ ap plain e)
+says-fresh-2 T v z e D = not-fresh v z (sym (D .as-row none-yet read-one (tt, tt)) ∙ ap plain e)
 
 -- any table at all that writes no word at the first set, and yet answers it as stored, breaks demand 2: reads are what they were
 pub writes-nothing-2 : (T : Table) (v n : ℕ) → T .answer (table four T none-yet) set-one ≡ stored v n
@@ -191,8 +192,8 @@ pub refuses-everything-3 : (f : Mem → Event → ℕ) → Demand3 four (refuses
 unfolding zero-lent
 refuses-everything-3 f = refuses-set-3 (refuses-everything f) (f (table four (refuses-everything f) zero-lent) set-one) refl refl
 
--- reads that say absent where permission 5 of age 0 is due, whatever else they say, break demand 2
-pub misreads-absent-2 : (f : Answer → Answer) → f (fresh 5 0) ≡ absent → Demand2 four (misreads f) → ⊥
+-- reads that say absent where permission 5 is due with 720 minutes left, whatever else they say, break demand 2
+pub misreads-absent-2 : (f : Answer → Answer) → f (fresh 5 (pos 720)) ≡ absent → Demand2 four (misreads f) → ⊥
 unfolding computing
 misreads-absent-2 f e D = says-absent-2 (misreads f) 1 0 refl (ap plain e) D
 
@@ -201,20 +202,21 @@ pub always-absent-2 : Demand2 four (misreads (λ a. absent)) → ⊥
 always-absent-2 = misreads-absent-2 (λ a. absent) refl
 
 -- reads that say fresh where absent is due, whatever else they say, break demand 2
-pub misreads-fresh-2 : (f : Answer → Answer) (v a : ℕ) → f absent ≡ fresh v a → Demand2 four (misreads f) → ⊥
+pub misreads-fresh-2 : (f : Answer → Answer) (v : ℕ) (z : ℤ) → f absent ≡ fresh v z → Demand2 four (misreads f) → ⊥
 unfolding computing
-misreads-fresh-2 f v a e D = says-fresh-2 (misreads f) v a e D
+misreads-fresh-2 f v z e D = says-fresh-2 (misreads f) v z e D
 
--- reads that always say fresh, of whatever permission and age, break demand 2
-pub always-fresh-2 : (v a : ℕ) → Demand2 four (misreads (λ r. fresh v a)) → ⊥
-always-fresh-2 v a = misreads-fresh-2 (λ r. fresh v a) v a refl
+-- reads that always say fresh, of whatever permission and with whatever time left, break demand 2
+pub always-fresh-2 : (v : ℕ) (z : ℤ) → Demand2 four (misreads (λ r. fresh v z)) → ⊥
+always-fresh-2 v z = misreads-fresh-2 (λ r. fresh v z) v z refl
 
--- any table at all that stores a set of the minute before, and then tells another age than 1, breaks demand 2
-pub another-age-2 : (T : Table) (v n a : ℕ) → T .answer (table four T none-yet) set-earlier ≡ stored v n
-    → plain (T .answer (table four T earlier-in) read-one) ≡ fresh 5 a → a ≢ 1 → Demand2 four T → ⊥
+-- any table at all that stores a set of the minute before, and then tells another number than 719 of 720, as the age would be, breaks
+-- demand 2
+pub another-left-2 : (T : Table) (v n : ℕ) (z : ℤ) → T .answer (table four T none-yet) set-earlier ≡ stored v n
+    → plain (T .answer (table four T earlier-in) read-one) ≡ fresh 5 z → z ≢ pos 719 → Demand2 four T → ⊥
 unfolding computing
-another-age-2 T v n a e r ne D =
-    let told : fresh 5 a ≡ fresh 5 1 = sym r ∙ D .as-row earlier-in read-one (tt, tt)
+another-left-2 T v n z e r ne D =
+    let told : fresh 5 z ≡ fresh 5 (pos 719) = sym r ∙ D .as-row earlier-in read-one (tt, tt)
     ∙ ap (λ b. row-event 3 0 (row-event 3 b (replicate 12 0) set-earlier .words) read-one .answer) (ap beyond e) in
     ne cc
 
@@ -231,7 +233,7 @@ takes-late-2 T v n v′ n′ e f D =
 -- a set that stamps the minute of arrival breaks demand 2
 pub stamps-arrival-2 : Demand2 four stamps-arrival → ⊥
 unfolding computing
-stamps-arrival-2 D = another-age-2 stamps-arrival 1 0 0 refl refl (λ z. absurd (omega arith)) D
+stamps-arrival-2 D = another-left-2 stamps-arrival 1 0 (pos 720) refl refl (λ e. let z : _≡_ {A = ℕ} 720 719 = ap natAbs e in absurd (omega arith)) D
 
 -- a set that stores nothing, and yet answers as ours does, breaks demand 2
 pub stores-nothing-2 : Demand2 four stores-nothing → ⊥
@@ -255,7 +257,7 @@ lost-one : SeenBy four clears-later twelve-held (leaves clears-later twelve-held
     17 1 720 100 → ⊥
 unfolding computing
 lost-one u =
-    ⊎-elim (not-refused 8) (λ u. ⊎-elim (not-fresh 7 0) (λ e. let z : _≡_ {A = ℕ} 1 17 = e .0 in absurd (omega arith)) u) u
+    ⊎-elim (not-refused 8) (λ u. ⊎-elim (not-fresh 7 (pos 720)) (λ e. let z : _≡_ {A = ℕ} 1 17 = e .0 in absurd (omega arith)) u) u
 
 -- it breaks the unchanged reads of demand 2
 pub clears-later-reads : CutReads four clears-later → ⊥

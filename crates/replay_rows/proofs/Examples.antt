@@ -8,7 +8,7 @@ use Rattle.model.specs.Memory.{damaged, place, tag}
 use Rattle.model.specs.Hash.{bytes as low-bytes, fnv, fnv-step, hash, odd-up, other-bucket, spread, tag-from}
 use Rattle.model.specs.Shape.{good-counters, good-items, good-lengths, good-slots}
 use Rattle.model.specs.Visits.{climb, first-free, free-slot, hops, lowest, next-level, visits}
-use Rattle.model.specs.Age.{age, is-fresh, verdict}
+use Rattle.model.specs.Age.{age, is-fresh, left-of, verdict}
 use Rattle.model.specs.Clock.{next-hand, passed-recent, seek-victim}
 use Rattle.model.specs.Listing.{list-record, listing, live-count, records}
 use Rattle.model.specs.Calls.{hit, hits, slot-of, some-live, vacant-place}
@@ -17,7 +17,7 @@ use Rattle.model.specs.Row.{walk-to}
 use Rattle.plain.specs.Plain.{plain-read}
 use Rattle.replay_words.specs.Words.{all-digits, before, filled, lines, number, mark-length, number-from, pieces, same, value, without-comment, without-mark, without-return, words}
 use Rattle.replay_print.specs.Text.{bytes}
-use Rattle.replay_print.specs.Print.{decimal-of, digits, hex-digit, hex-of, hexes, numbered, record-lines, told}
+use Rattle.replay_print.specs.Print.{decimal-of, digits, hex-digit, hex-of, hexes, numbered, record-lines, signed-of, told}
 use Rattle.replay_answers.specs.Text.{reason}
 use Rattle.replay_lines.specs.Taking.{bound, taken, takes}
 use Rattle.replay_lines.specs.Reasons.{behind, furthest, instead, parting, why-not}
@@ -83,11 +83,11 @@ not-understood = (refl, refl, refl, refl, refl, refl, refl, refl, refl, refl, re
 
 -- a cow that is set, read, served and deleted but for one store; another that stays; and what is answered to the rest
 abbrev day : List ℕ
-day = bytes "# a day of one cow\nfresh 8 1 4\nset 1 5 2 3\nread 1 720 2\nserve\t1 0 9\ncut 1 delete 1\nread 1 720 3\nplain 1 720 3\nfresh 8 1 8\nset 7 4294967295 5 6 standing\nread 7 0 9\ncut 3 evict\nhand 1\nevict\nlist 20\nset 1 4294967296 2 3\npoke items 4 9\npoke slots 8 1\nlist 81921\ndump"
+day = bytes "# a day of one cow\nfresh 8 1 4\nset 1 5 2 3\nread 1 720 2\nserve\t1 0 9\ncut 1 delete 1\nread 1 720 3\nplain 1 720 3\nfresh 8 1 8\nset 7 4294967295 5 6 standing\nread 7 30 9\ncut 3 evict\nhand 1\nevict\nlist 20\nset 1 4294967296 2 3\npoke items 4 9\npoke slots 8 1\nlist 81921\ndump"
 
 pub day-answered : answers false day
-    ≡ bytes "fresh\nstored 1 0\nfresh 5 0\nold 7\ndeleted\nrefused 8\nfresh 5 1\nfresh\nstored 1 0\nfresh 4294967295 0\nevicted 7 3 1\nhand\nrefused 8\nlisted 1\n0700000000000000ffffffffffffffffffffffff\nline 16: not understood: number too large\npoked\nno such word\nline 19: not understood: number too large\nslots 0 0 0 0 0 0 0 0\ncounters 3\nitems 7 4294967295 18446744073709551615 0 9 0 0 0\n"
-unfolding replayed reply-to shown meaning starts asks calls cuts turns cut-turns hands lists pokes-slots pokes-counters pokes-items audits plain-read walk-to said said-by first-row fitting taken bound why-not furthest parting takes behind instead lines words pieces filled before same number number-from value all-digits without-comment without-return without-mark mark-length told numbered reason decimal-of digits record-lines hexes hex-of hex-digit hash fnv fnv-step low-bytes tag-from odd-up spread other-bucket tag place damaged range first good-lengths good-slots good-counters good-items hits hit vacant-place some-live visits next-level hops first-free free-slot lowest climb is-fresh age verdict next-hand seek-victim passed-recent slot-of list-record records live-count listing stores
+    ≡ bytes "fresh\nstored 1 0\nfresh 5 720\nold -7\ndeleted\nrefused 8\nfresh 5 719\nfresh\nstored 1 0\nfresh 4294967295 30\nevicted 7 3 1\nhand\nrefused 8\nlisted 1\n0700000000000000ffffffffffffffffffffffff\nline 16: not understood: number too large\npoked\nno such word\nline 19: not understood: number too large\nslots 0 0 0 0 0 0 0 0\ncounters 3\nitems 7 4294967295 18446744073709551615 0 9 0 0 0\n"
+unfolding replayed reply-to shown meaning starts asks calls cuts turns cut-turns hands lists pokes-slots pokes-counters pokes-items audits plain-read walk-to said said-by first-row fitting taken bound why-not furthest parting takes behind instead lines words pieces filled before same number number-from value all-digits without-comment without-return without-mark mark-length told numbered reason decimal-of signed-of digits record-lines hexes hex-of hex-digit hash fnv fnv-step low-bytes tag-from odd-up spread other-bucket tag place damaged range first good-lengths good-slots good-counters good-items hits hit vacant-place some-live visits next-level hops first-free free-slot lowest climb is-fresh age left-of verdict next-hand seek-victim passed-recent slot-of list-record records live-count listing stores
 day-answered = refl
 
 -- a text behind a byte order mark, with the calls shown, and how many of its lines are not understood
@@ -97,7 +97,7 @@ hour = 239 ∷ 187 ∷ 191 ∷ bytes "fresh 8 1 4\n\n# two lines without a call\
 pub hour-answered : (answers true hour
     ≡ bytes "1: fresh 8 1 4 -> fresh\n4: read 1 720 2 -> absent\n5: list 20 -> listed 0\nline 6: not understood: too few numbers\n7: dump -> slots 0 0 0 0 0 0 0 0\ncounters 0\nitems 0 0 0 0\n")
     × (missed hour ≡ 1)
-unfolding missed-in echo filled-in in-place next-number replayed reply-to shown meaning starts asks calls cuts turns cut-turns hands lists pokes-slots pokes-counters pokes-items audits plain-read walk-to said said-by first-row fitting taken bound why-not furthest parting takes behind instead lines words pieces filled before same number number-from value all-digits without-comment without-return without-mark mark-length told numbered reason decimal-of digits record-lines hexes hex-of hex-digit hash fnv fnv-step low-bytes tag-from odd-up spread other-bucket tag place damaged range first good-lengths good-slots good-counters good-items hits hit vacant-place some-live visits next-level hops first-free free-slot lowest climb is-fresh age verdict next-hand seek-victim passed-recent slot-of list-record records live-count listing stores
+unfolding missed-in echo filled-in in-place next-number replayed reply-to shown meaning starts asks calls cuts turns cut-turns hands lists pokes-slots pokes-counters pokes-items audits plain-read walk-to said said-by first-row fitting taken bound why-not furthest parting takes behind instead lines words pieces filled before same number number-from value all-digits without-comment without-return without-mark mark-length told numbered reason decimal-of signed-of digits record-lines hexes hex-of hex-digit hash fnv fnv-step low-bytes tag-from odd-up spread other-bucket tag place damaged range first good-lengths good-slots good-counters good-items hits hit vacant-place some-live visits next-level hops first-free free-slot lowest climb is-fresh age left-of verdict next-hand seek-victim passed-recent slot-of list-record records live-count listing stores
 hour-answered = (refl, refl)
 
 pub statuses : (status true 0 ≡ 0) × (status true 7 ≡ 2) × (status false 0 ≡ 1) × (status false 7 ≡ 1)
