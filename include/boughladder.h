@@ -63,14 +63,18 @@
 #include <stdint.h>
 
 /* This header's version, as text and as numbers. The archive has none to ask for: ship both from one release.
+   A caller of 2.x that reads the age does not compile: left is the limit minus the age. Any other needs no change.
    A caller of 1.0.0 does not compile: each set takes one minute more, and over a table a standing one takes two.
-   What was compiled before does link, and passes its numbers one place off. So does this header with the archive of
-   1.0.0, which takes now for standing: every permission is then fresh for ever. Compile and link everything again.
-   A caller of 2.0.0 needs no change. One of plain read does not link with the archive of 2.0.0. */
-#define BOUGHLADDER_VERSION "2.1.1"
-#define BOUGHLADDER_VERSION_MAJOR 2
-#define BOUGHLADDER_VERSION_MINOR 1
-#define BOUGHLADDER_VERSION_PATCH 1
+   Compile and link everything again. What is mixed does link (only plain read is missing before 2.1.0):
+     - what was compiled with 2.x takes what is left for the age: in its last good minute a permission looks new;
+     - this header with an archive of 2.x takes the age for what is left: an old permission has minutes left;
+     - what was compiled with 1.0.0 passes a set's numbers one place off, and so does this header to the archive of
+       1.0.0, which takes now for standing: every permission is then fresh for ever.
+   Refusal, kind, permission and lane are right in the first two. */
+#define BOUGHLADDER_VERSION "3.0.0"
+#define BOUGHLADDER_VERSION_MAJOR 3
+#define BOUGHLADDER_VERSION_MINOR 0
+#define BOUGHLADDER_VERSION_PATCH 0
 
 /* Sizes: words of slots for n buckets, words of items for m places, bytes of a whole list of m places. V counters are
    V words. */
@@ -87,6 +91,7 @@
 #define BOUGHLADDER_LEAST_M 1
 #define BOUGHLADDER_MOST_M 4096
 #define BOUGHLADDER_LARGEST_LIMIT 10080 /* minutes: a week */
+#define BOUGHLADDER_LEAST_LEFT (-INT64_C(4611686018427387904)) /* -2^62 minutes; what would be less is told as this */
 #define BOUGHLADDER_STANDING UINT64_MAX /* the stamp of a standing permission; no minute */
 
 /* Permission bits. The other bits are the caller's. */
@@ -145,8 +150,8 @@ enum BoughladderRefusal {
 /* What a call that was not refused found. */
 enum BoughladderKind {
     BOUGHLADDER_ABSENT = 0,   /* the animal is not held */
-    BOUGHLADDER_FRESH = 1,    /* a permission within the limit, or a standing one, whose age is 0 */
-    BOUGHLADDER_OLD = 2,      /* a permission beyond the limit: its age is told, and it is not */
+    BOUGHLADDER_FRESH = 1,    /* a permission within the limit, or a standing one, which has the whole limit left */
+    BOUGHLADDER_OLD = 2,      /* a permission beyond the limit: how long it is overdue is told, and it is not */
     BOUGHLADDER_AHEAD = 3,    /* a stamp later than now */
     BOUGHLADDER_AT_PLACE = 9  /* find: the animal is held at a place */
 };
@@ -154,12 +159,15 @@ enum BoughladderKind {
 /* Where an animal goes. */
 enum BoughladderLane { BOUGHLADDER_HOLDING = 0, BOUGHLADDER_MILKING = 1, BOUGHLADDER_GRAZING = 2 };
 
-/* Read, serve and plain read, in 16 bytes: two registers. */
+/* Read, serve and plain read, in 16 bytes: two registers.
+   Where fresh, left is 0 or more: 0 in the last good minute. Where old, it is below 0, BOUGHLADDER_LEAST_LEFT at the
+   least, so that -left, the minutes overdue, never overflows. Ahead, absent and refused have 0, which tells nothing.
+   Look at kind first: left >= 0 alone takes an absent animal for fresh. boughladder_lane is the safe way. */
 typedef struct BoughladderReading {
     uint16_t refusal;
     uint16_t kind;        /* absent, fresh, old or ahead */
     uint32_t permission;  /* where fresh */
-    uint64_t age;         /* minutes; where fresh or old */
+    int64_t left;         /* minutes of the limit that are left; where fresh or old */
 } BoughladderReading;
 
 /* Find. */
