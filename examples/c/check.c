@@ -1,8 +1,9 @@
 /*
  * Checks include/boughladder.h and libboughladder.a against each other: the layout of each struct, where the hash puts
- * an animal, each call with known answers (the order's examples), late lists and the order of set's refusals, plain
- * read and where it answers as read, the sizes and limits, the calls over a table beside those over the runs, and
- * garbage memory of any length in blocks of their own, so that valgrind sees a read or a write outside.
+ * an animal, each call with known answers (the order's examples), what is left of the limit, late lists and the order
+ * of set's refusals, plain read and where it answers as read, the sizes and limits, the calls over a table beside those
+ * over the runs, and garbage memory of any length in blocks of their own, so that valgrind sees a read or a write
+ * outside.
  * `check ROUNDS` prints one line, `N checks passed`, or the checks that failed.
  */
 #include <stdio.h>
@@ -58,13 +59,21 @@ static int same(const Table *a, const Table *b) {
 static void give_back(Table *t) { free(t->slots), free(t->counters), free(t->items); }
 
 #define LENT(t) (t).slots, (t).s, (t).counters, (t).c, (t).items, (t).i
+#define LEAST (-4611686018427387904) /* -2^62, by hand: the header has it too */
 
-static int reads(BoughladderReading r, unsigned refusal, unsigned kind, uint32_t permission, uint64_t age) {
-    return r.refusal == refusal && r.kind == kind && r.permission == permission && r.age == age;
+static int reads(BoughladderReading r, unsigned refusal, unsigned kind, uint32_t permission, int64_t left) {
+    return r.refusal == refusal && r.kind == kind && r.permission == permission && r.left == left;
 }
 
 static int alike(BoughladderReading a, BoughladderReading b) {
-    return reads(a, b.refusal, b.kind, b.permission, b.age);
+    return reads(a, b.refusal, b.kind, b.permission, b.left);
+}
+
+/* On any memory: fresh has 0 to the limit left, old has less than 0, and nothing else tells a number. */
+static int in_range(BoughladderReading r, uint64_t limit) {
+    if (r.kind == BOUGHLADDER_FRESH) return r.refusal == 0 && r.left >= 0 && (uint64_t)r.left <= limit;
+    if (r.kind == BOUGHLADDER_OLD) return r.refusal == 0 && r.permission == 0 && r.left < 0 && r.left >= LEAST;
+    return r.permission == 0 && r.left == 0 && (r.refusal == 0 ? r.kind <= 3 : r.kind == 0);
 }
 
 static int finds(BoughladderFinding r, uint32_t refusal, uint32_t kind, size_t place) {
@@ -98,6 +107,7 @@ static BoughladderReading plainly(const Table *t, uint64_t animal, uint64_t limi
 static BoughladderReading walked(const Table *t, uint64_t animal, uint64_t limit, uint64_t now) {
     BoughladderReading r = {0, BOUGHLADDER_ABSENT, 0, 0};
     const uint64_t *words = t->items, *end = t->items + t->i;
+    uint64_t age;
     if (t->i % 4 != 0 || t->i < 4 || t->i > 16384) r.refusal = BOUGHLADDER_BAD_SHAPE;
     else if (animal == 0) r.refusal = BOUGHLADDER_NO_ANIMAL;
     else if (limit > 10080 || now == UINT64_MAX) r.refusal = BOUGHLADDER_BAD_TIME;
@@ -108,9 +118,10 @@ static BoughladderReading walked(const Table *t, uint64_t animal, uint64_t limit
         r.kind = BOUGHLADDER_AHEAD;
         return r;
     }
-    r.age = words[2] == UINT64_MAX ? 0 : now - words[2];
-    r.kind = r.age <= limit ? BOUGHLADDER_FRESH : BOUGHLADDER_OLD;
-    if (r.kind == BOUGHLADDER_FRESH) r.permission = (uint32_t)(words[1] % 4294967296u);
+    age = words[2] == UINT64_MAX ? 0 : now - words[2];
+    r.kind = age <= limit ? BOUGHLADDER_FRESH : BOUGHLADDER_OLD;
+    if (r.kind == BOUGHLADDER_FRESH) r.permission = (uint32_t)(words[1] % 4294967296u), r.left = (int64_t)(limit - age);
+    else r.left = age - limit > 4611686018427387904u ? LEAST : -(int64_t)(age - limit);
     return r;
 }
 
@@ -121,8 +132,9 @@ static void agree(const Table *t) {
     for (size_t place = 0; place < t->i / 4; place++)
         for (int l = 0; l < 6; l++) {
             uint64_t animal = t->items[4 * place], limit = limits[l], stamp = t->items[4 * place + 2];
-            uint64_t minutes[7] = {0, stamp - 1, stamp, stamp + limit, stamp + limit + 1, UINT64_MAX - 1, UINT64_MAX};
-            for (int m = 0; m < 7; m++)
+            uint64_t last = stamp + limit, least = last + 4611686018427387904u;
+            uint64_t minutes[9] = {0, stamp - 1, stamp, last, last + 1, least, least + 1, UINT64_MAX - 1, UINT64_MAX};
+            for (int m = 0; m < 9; m++)
                 for (uint64_t other = 0; other < 2; other++)
                     CHECK(alike(plainly(t, animal + other, limit, minutes[m]),
                                 boughladder_read(LENT(*t), animal + other, limit, minutes[m])));
@@ -132,7 +144,7 @@ static void agree(const Table *t) {
 static void layout(void) {
     CHECK(sizeof(BoughladderReading) == 16);
     CHECK(offsetof(BoughladderReading, kind) == 2 && offsetof(BoughladderReading, permission) == 4);
-    CHECK(offsetof(BoughladderReading, age) == 8);
+    CHECK(offsetof(BoughladderReading, left) == 8);
     CHECK(sizeof(BoughladderFinding) == 16);
     CHECK(offsetof(BoughladderFinding, kind) == 4 && offsetof(BoughladderFinding, place) == 8);
     CHECK(sizeof(BoughladderSetting) == 24);
@@ -223,8 +235,9 @@ static void sizes(void) {
     CHECK(t.items == items && t.items_length == 8);
     CHECK(boughladder_table_fresh(&t) == 0);
     CHECK(boughladder_table_set(&t, 7, 5, 0, 0).refusal == 0);
-    CHECK(reads(boughladder_table_read(&t, 7, BOUGHLADDER_LARGEST_LIMIT, 1), 0, BOUGHLADDER_FRESH, 5, 1));
+    CHECK(reads(boughladder_table_read(&t, 7, BOUGHLADDER_LARGEST_LIMIT, 1), 0, BOUGHLADDER_FRESH, 5, 10079));
     CHECK(boughladder_table_read(&t, 7, BOUGHLADDER_LARGEST_LIMIT + 1, 1).refusal == BOUGHLADDER_BAD_TIME);
+    CHECK(reads(boughladder_table_read(&t, 7, 0, UINT64_MAX - 1), 0, BOUGHLADDER_OLD, 0, BOUGHLADDER_LEAST_LEFT));
     CHECK(boughladder_table_read(&t, 7, 0, BOUGHLADDER_STANDING).refusal == BOUGHLADDER_BAD_TIME);
     CHECK(boughladder_table_set_standing(&t, 7, 5, 1, 1).refusal == 0 && items[2] == BOUGHLADDER_STANDING);
     CHECK(reads(boughladder_table_read(&t, 7, 0, 0), 0, BOUGHLADDER_FRESH, 5, 0));
@@ -317,12 +330,12 @@ static void ages(void) {
     agree(&t);
     CHECK(sets(boughladder_set(LENT(t), 7, 5, 100, 100, 0), 0, 1, 0));
     agree(&t);
-    CHECK(reads(boughladder_read(LENT(t), 7, 720, 820), 0, BOUGHLADDER_FRESH, 5, 720));
-    CHECK(reads(boughladder_read(LENT(t), 7, 720, 821), 0, BOUGHLADDER_OLD, 0, 721));
+    CHECK(reads(boughladder_read(LENT(t), 7, 720, 820), 0, BOUGHLADDER_FRESH, 5, 0));
+    CHECK(reads(boughladder_read(LENT(t), 7, 720, 821), 0, BOUGHLADDER_OLD, 0, -1));
     CHECK(reads(boughladder_read(LENT(t), 7, 720, 99), 0, BOUGHLADDER_AHEAD, 0, 0));
     CHECK(reads(boughladder_read(LENT(t), 8, 720, 100), 0, BOUGHLADDER_ABSENT, 0, 0));
     CHECK(reads(boughladder_read(LENT(t), 0, 720, 100), BOUGHLADDER_NO_ANIMAL, 0, 0, 0));
-    CHECK(reads(boughladder_read(LENT(t), 7, 10080, 10180), 0, BOUGHLADDER_FRESH, 5, 10080));
+    CHECK(reads(boughladder_read(LENT(t), 7, 10080, 10180), 0, BOUGHLADDER_FRESH, 5, 0));
     CHECK(reads(boughladder_read(LENT(t), 7, 10081, 100), BOUGHLADDER_BAD_TIME, 0, 0, 0));
     CHECK(reads(boughladder_read(LENT(t), 7, 720, UINT64_MAX), BOUGHLADDER_BAD_TIME, 0, 0, 0));
     CHECK(sets(boughladder_set(LENT(t), 7, 6, UINT64_MAX, UINT64_MAX, 0), BOUGHLADDER_BAD_TIME, 0, 0));
@@ -339,10 +352,10 @@ static void ages(void) {
     CHECK(sets(boughladder_set(LENT(t), 7, 5, 100, 100, 0), 0, 0, 0));
     CHECK(t.items[0] == 7 && t.items[1] == 5 && t.items[2] == 100 && t.items[3] == 1);
     t.items[3] = 0;
-    CHECK(reads(boughladder_serve(LENT(t), 7, 720, 821), 0, BOUGHLADDER_OLD, 0, 721) && t.items[3] == 0);
+    CHECK(reads(boughladder_serve(LENT(t), 7, 720, 821), 0, BOUGHLADDER_OLD, 0, -1) && t.items[3] == 0);
     CHECK(reads(boughladder_serve(LENT(t), 7, 720, 99), 0, BOUGHLADDER_AHEAD, 0, 0) && t.items[3] == 0);
-    CHECK(reads(boughladder_read(LENT(t), 7, 720, 820), 0, BOUGHLADDER_FRESH, 5, 720) && t.items[3] == 0);
-    CHECK(reads(boughladder_serve(LENT(t), 7, 720, 820), 0, BOUGHLADDER_FRESH, 5, 720) && t.items[3] == 1);
+    CHECK(reads(boughladder_read(LENT(t), 7, 720, 820), 0, BOUGHLADDER_FRESH, 5, 0) && t.items[3] == 0);
+    CHECK(reads(boughladder_serve(LENT(t), 7, 720, 820), 0, BOUGHLADDER_FRESH, 5, 0) && t.items[3] == 1);
     CHECK(reads(boughladder_serve(LENT(t), 8, 720, 820), 0, BOUGHLADDER_ABSENT, 0, 0));
     CHECK(reads(boughladder_serve(LENT(t), 0, 720, 820), BOUGHLADDER_NO_ANIMAL, 0, 0, 0));
 
@@ -357,6 +370,59 @@ static void ages(void) {
     CHECK(t.items[0] == 0 && t.items[1] == 0 && t.items[2] == 0 && t.items[3] == 0);
     CHECK(reads(boughladder_read(LENT(t), 7, 720, 820), 0, BOUGHLADDER_ABSENT, 0, 0));
     give_back(&t);
+}
+
+/* What read, plain read and serve say of a held animal with that stamp; serve marks her where she is fresh. */
+static int leaves(uint64_t stamp, uint64_t limit, uint64_t now, unsigned kind, int64_t left) {
+    Table t = lend(16, 4, 36);
+    uint32_t permission = kind == BOUGHLADDER_FRESH ? 5 : 0;
+    int holds = boughladder_fresh(LENT(t)) == 0 && boughladder_set(LENT(t), 7, 5, 0, 0, 0).refusal == 0;
+    t.items[2] = stamp, t.items[3] = 0;
+    holds = holds && reads(boughladder_read(LENT(t), 7, limit, now), 0, kind, permission, left) &&
+            reads(plainly(&t, 7, limit, now), 0, kind, permission, left) && t.items[3] == 0 &&
+            reads(boughladder_serve(LENT(t), 7, limit, now), 0, kind, permission, left) &&
+            t.items[3] == (kind == BOUGHLADDER_FRESH ? 1u : 0u);
+    give_back(&t);
+    return holds;
+}
+
+/* What is left of the limit, to its lower end and beyond, where a difference of 64 bits changes its sign. */
+static void lefts(void) {
+    static const uint64_t limits[4] = {0, 1, 720, 10080};
+    static const uint64_t stamps[4] = {0, 100, 4294967295u, 4611686018427387904u};
+    static const struct {
+        uint64_t minutes;
+        int64_t left;
+    } overdue[11] = {{1, -1},
+                     {2, -2},
+                     {2147483648u, -2147483648},
+                     {2147483649u, -2147483649},
+                     {4294967296u, -4294967296},
+                     {4611686018427387903u, -4611686018427387903},
+                     {4611686018427387904u, LEAST},
+                     {4611686018427387905u, LEAST},
+                     {9223372036854775807u, LEAST},
+                     {9223372036854775808u, LEAST},
+                     {9223372036854775809u, LEAST}};
+    for (int l = 0; l < 4; l++) {
+        uint64_t limit = limits[l];
+        int64_t whole = (int64_t)limit;
+        for (int s = 0; s < 4; s++) {
+            uint64_t stamp = stamps[s], last = stamp + limit;
+            CHECK(leaves(stamp, limit, stamp, BOUGHLADDER_FRESH, whole));
+            CHECK(leaves(stamp, limit, stamp + limit / 2, BOUGHLADDER_FRESH, whole - whole / 2));
+            CHECK(leaves(stamp, limit, last, BOUGHLADDER_FRESH, 0));
+            for (int k = 0; k < 11; k++)
+                CHECK(leaves(stamp, limit, last + overdue[k].minutes, BOUGHLADDER_OLD, overdue[k].left));
+            CHECK(leaves(stamp, limit, UINT64_MAX - 1, BOUGHLADDER_OLD, LEAST));
+            CHECK(leaves(stamp + 1, limit, stamp, BOUGHLADDER_AHEAD, 0));
+            CHECK(leaves(UINT64_MAX - 1, limit, stamp, BOUGHLADDER_AHEAD, 0));
+            CHECK(leaves(BOUGHLADDER_STANDING, limit, stamp, BOUGHLADDER_FRESH, whole));
+        }
+        CHECK(leaves(9223372036854775809u, limit, 0, BOUGHLADDER_AHEAD, 0));
+        CHECK(leaves(UINT64_MAX - 1, limit, UINT64_MAX - 1, BOUGHLADDER_FRESH, whole));
+        CHECK(leaves(BOUGHLADDER_STANDING, limit, UINT64_MAX - 1, BOUGHLADDER_FRESH, whole));
+    }
 }
 
 /* Set and its cut form refuse alike, for every k, and change nothing. */
@@ -377,8 +443,8 @@ static void issues(void) {
     Table t = lend(16, 4, 36);
     CHECK(boughladder_fresh(LENT(t)) == 0);
     CHECK(sets(boughladder_set(LENT(t), 7, 5, 100, 300, 0), 0, 1, 0) && t.items[2] == 100);
-    CHECK(reads(boughladder_read(LENT(t), 7, 720, 820), 0, BOUGHLADDER_FRESH, 5, 720));
-    CHECK(reads(boughladder_read(LENT(t), 7, 720, 821), 0, BOUGHLADDER_OLD, 0, 721));
+    CHECK(reads(boughladder_read(LENT(t), 7, 720, 820), 0, BOUGHLADDER_FRESH, 5, 0));
+    CHECK(reads(boughladder_read(LENT(t), 7, 720, 821), 0, BOUGHLADDER_OLD, 0, -1));
 
     /* A minute earlier is late, and she does not count as here lately; the same minute and a later one are stored. */
     t.items[3] = 0;
@@ -407,7 +473,7 @@ static void issues(void) {
     CHECK(refuses(&t, 7, 100, 510, 0, BOUGHLADDER_LATE));
     CHECK(boughladder_delete(LENT(t), 7) == 0);
     CHECK(sets(boughladder_set(LENT(t), 7, 1, 100, 510, 0), 0, 1, 0));
-    CHECK(reads(boughladder_read(LENT(t), 7, 720, 510), 0, BOUGHLADDER_FRESH, 1, 410));
+    CHECK(reads(boughladder_read(LENT(t), 7, 720, 510), 0, BOUGHLADDER_FRESH, 1, 310));
     CHECK(sets(boughladder_set(LENT(t), 7, 0, 520, 520, 0), 0, 0, 0));
     CHECK(boughladder_evict(LENT(t), 0).victim == 7);
     CHECK(sets(boughladder_set(LENT(t), 7, 1, 100, 530, 0), 0, 1, 0));
@@ -416,7 +482,7 @@ static void issues(void) {
     CHECK(sets(boughladder_set(LENT(t), 7, 1, 5000, 5000, 0), 0, 0, 0));
     CHECK(reads(boughladder_read(LENT(t), 7, 720, 900), 0, BOUGHLADDER_AHEAD, 0, 0));
     CHECK(refuses(&t, 7, 900, 900, 0, BOUGHLADDER_LATE));
-    CHECK(reads(boughladder_read(LENT(t), 7, 720, 5000), 0, BOUGHLADDER_FRESH, 1, 0));
+    CHECK(reads(boughladder_read(LENT(t), 7, 720, 5000), 0, BOUGHLADDER_FRESH, 1, 720));
     CHECK(refuses(&t, 7, 4999, 5001, 0, BOUGHLADDER_LATE));
     CHECK(sets(boughladder_set(LENT(t), 7, 1, 5001, 5001, 0), 0, 0, 0));
     CHECK(boughladder_delete(LENT(t), 7) == 0);
@@ -473,8 +539,8 @@ static void moves(void) {
     CHECK(t.counters[0] == 20);
     agree(&t);
     for (uint32_t k = 0; k < 8; k++)
-        CHECK(reads(boughladder_read(LENT(t), herd[k], 720, 100), 0, BOUGHLADDER_FRESH, k, 0));
-    CHECK(reads(boughladder_read(LENT(t), 5, 720, 100), 0, BOUGHLADDER_FRESH, 9, 0));
+        CHECK(reads(boughladder_read(LENT(t), herd[k], 720, 100), 0, BOUGHLADDER_FRESH, k, 720));
+    CHECK(reads(boughladder_read(LENT(t), 5, 720, 100), 0, BOUGHLADDER_FRESH, 9, 720));
     CHECK(sets(boughladder_set(LENT(t), 6, 9, 100, 100, 0), BOUGHLADDER_NO_PLACE, 0, 0));
     give_back(&t);
 
@@ -509,7 +575,7 @@ static void clocks(void) {
 
     /* Only place 0 live, recent, hand 1; first with nothing but the clear made. */
     CHECK(boughladder_delete(LENT(t), 3) == 0);
-    CHECK(reads(boughladder_serve(LENT(t), 1, 720, 100), 0, BOUGHLADDER_FRESH, 1, 0));
+    CHECK(reads(boughladder_serve(LENT(t), 1, 720, 100), 0, BOUGHLADDER_FRESH, 1, 720));
     u = lend(16, 4, 12);
     copy(&u, &t);
     CHECK(evicts(boughladder_evict_cut(LENT(u), 1, 1), 0, 1, 6, 1));
@@ -551,11 +617,11 @@ static void cuts(void) {
         r = boughladder_read(LENT(t), 7, 720, 100);
         CHECK(k == 0   ? reads(r, 0, BOUGHLADDER_ABSENT, 0, 0)
               : k < 7 ? reads(r, BOUGHLADDER_BUSY, 0, 0, 0)
-                      : reads(r, 0, BOUGHLADDER_FRESH, 5, 0));
+                      : reads(r, 0, BOUGHLADDER_FRESH, 5, 720));
         /* Plain read tells what is half written: new permission, old stamp. */
         r = plainly(&t, 7, 720, 100);
         CHECK(k < 2 ? reads(r, 0, BOUGHLADDER_ABSENT, 0, 0)
-                    : reads(r, 0, BOUGHLADDER_FRESH, k < 3 ? 0 : 5, k < 4 ? 100 : 0));
+                    : reads(r, 0, BOUGHLADDER_FRESH, k < 3 ? 0 : 5, k < 4 ? 620 : 720));
         if (0 < k && k < 7) {
             CHECK(boughladder_delete(LENT(t), 7) == BOUGHLADDER_BUSY);
             CHECK(sets(boughladder_set(LENT(t), 7, 5, 100, 100, 0), BOUGHLADDER_BUSY, 0, 0));
@@ -591,18 +657,18 @@ static void plain(void) {
     Table t = lend(16, 4, 36);
     CHECK(boughladder_fresh(LENT(t)) == 0);
     CHECK(boughladder_set(LENT(t), 7, 5, 100, 100, 0).refusal == 0);
-    CHECK(reads(plainly(&t, 7, 720, 820), 0, BOUGHLADDER_FRESH, 5, 720));
-    CHECK(reads(plainly(&t, 7, 720, 821), 0, BOUGHLADDER_OLD, 0, 721));
+    CHECK(reads(plainly(&t, 7, 720, 820), 0, BOUGHLADDER_FRESH, 5, 0));
+    CHECK(reads(plainly(&t, 7, 720, 821), 0, BOUGHLADDER_OLD, 0, -1));
     CHECK(reads(plainly(&t, 7, 720, 99), 0, BOUGHLADDER_AHEAD, 0, 0));
     CHECK(reads(plainly(&t, 7, 0, 100), 0, BOUGHLADDER_FRESH, 5, 0));
-    CHECK(reads(plainly(&t, 7, 10080, 10180), 0, BOUGHLADDER_FRESH, 5, 10080));
-    CHECK(reads(plainly(&t, 7, 10080, 10181), 0, BOUGHLADDER_OLD, 0, 10081));
-    CHECK(reads(plainly(&t, 7, 0, UINT64_MAX - 1), 0, BOUGHLADDER_OLD, 0, UINT64_MAX - 101));
+    CHECK(reads(plainly(&t, 7, 10080, 10180), 0, BOUGHLADDER_FRESH, 5, 0));
+    CHECK(reads(plainly(&t, 7, 10080, 10181), 0, BOUGHLADDER_OLD, 0, -1));
+    CHECK(reads(plainly(&t, 7, 0, UINT64_MAX - 1), 0, BOUGHLADDER_OLD, 0, BOUGHLADDER_LEAST_LEFT));
     CHECK(reads(plainly(&t, 8, 720, 820), 0, BOUGHLADDER_ABSENT, 0, 0));
     CHECK(reads(plainly(&t, 4294967303u, 720, 820), 0, BOUGHLADDER_ABSENT, 0, 0));
     CHECK(boughladder_set(LENT(t), 7, 6, 100, 100, 1).refusal == 0);
     CHECK(reads(plainly(&t, 7, 0, 0), 0, BOUGHLADDER_FRESH, 6, 0));
-    CHECK(reads(plainly(&t, 7, 720, UINT64_MAX - 1), 0, BOUGHLADDER_FRESH, 6, 0));
+    CHECK(reads(plainly(&t, 7, 720, UINT64_MAX - 1), 0, BOUGHLADDER_FRESH, 6, 720));
 
     /* 1, 2, 3 in this order: all reasons at once, and one after the other is taken away. */
     t.i = 35;
@@ -627,8 +693,8 @@ static void plain(void) {
         int good = l % 4 == 0 && l >= 4 && l <= 16384;
         t = lend(0, 0, l);
         if (l >= 4) put(&t, l / 4 - 1, 7);
-        CHECK(reads(plainly(&t, 7, 720, 820), good ? 0 : BOUGHLADDER_BAD_SHAPE, good ? BOUGHLADDER_FRESH : 0,
-                    good ? 5 : 0, good ? 720 : 0));
+        CHECK(reads(plainly(&t, 7, 720, 810), good ? 0 : BOUGHLADDER_BAD_SHAPE, good ? BOUGHLADDER_FRESH : 0,
+                    good ? 5 : 0, good ? 10 : 0));
         if (good) {
             t.i -= 4;
             CHECK(reads(plainly(&t, 7, 720, 820), t.i == 0 ? BOUGHLADDER_BAD_SHAPE : 0, 0, 0, 0));
@@ -646,36 +712,36 @@ static void plain_walks(void) {
     for (place = 0; place < 9; place++) {
         memset(t.items, 0, 8 * t.i);
         put(&t, place, 7);
-        CHECK(reads(plainly(&t, 7, 720, 820), 0, BOUGHLADDER_FRESH, 5, 720));
+        CHECK(reads(plainly(&t, 7, 720, 820), 0, BOUGHLADDER_FRESH, 5, 0));
         for (size_t other = 0; other < 9; other++)
             if (other != place) put(&t, other, 100 + other);
-        CHECK(reads(plainly(&t, 7, 720, 820), 0, BOUGHLADDER_FRESH, 5, 720));
+        CHECK(reads(plainly(&t, 7, 720, 820), 0, BOUGHLADDER_FRESH, 5, 0));
         CHECK(reads(plainly(&t, 9, 720, 820), 0, BOUGHLADDER_ABSENT, 0, 0));
     }
 
     /* Twins: the first place, fresh, old or ahead, and whatever the other one is. */
     put(&t, 2, 7), put(&t, 6, 7);
     t.items[4 * 6 + 1] = 6, t.items[4 * 6 + 2] = 110;
-    CHECK(reads(plainly(&t, 7, 720, 820), 0, BOUGHLADDER_FRESH, 5, 720));
-    CHECK(reads(plainly(&t, 7, 720, 821), 0, BOUGHLADDER_OLD, 0, 721));
+    CHECK(reads(plainly(&t, 7, 720, 820), 0, BOUGHLADDER_FRESH, 5, 0));
+    CHECK(reads(plainly(&t, 7, 720, 821), 0, BOUGHLADDER_OLD, 0, -1));
     t.items[4 * 2 + 2] = 900;
     CHECK(reads(plainly(&t, 7, 720, 820), 0, BOUGHLADDER_AHEAD, 0, 0));
     t.items[4 * 2 + 2] = UINT64_MAX;
-    CHECK(reads(plainly(&t, 7, 720, 820), 0, BOUGHLADDER_FRESH, 5, 0));
+    CHECK(reads(plainly(&t, 7, 720, 820), 0, BOUGHLADDER_FRESH, 5, 720));
     t.items[4 * 2] = 0;
-    CHECK(reads(plainly(&t, 7, 720, 820), 0, BOUGHLADDER_FRESH, 6, 710));
+    CHECK(reads(plainly(&t, 7, 720, 820), 0, BOUGHLADDER_FRESH, 6, 10));
 
     /* A permission word modulo 2^32; a permission 0 is one too; any recent word. */
     put(&t, 2, 7);
     t.items[4 * 2 + 1] = 4294967301u;
-    CHECK(reads(plainly(&t, 7, 720, 820), 0, BOUGHLADDER_FRESH, 5, 720));
+    CHECK(reads(plainly(&t, 7, 720, 820), 0, BOUGHLADDER_FRESH, 5, 0));
     t.items[4 * 2 + 1] = UINT64_MAX;
-    CHECK(reads(plainly(&t, 7, 720, 820), 0, BOUGHLADDER_FRESH, UINT32_MAX, 720));
-    CHECK(reads(plainly(&t, 7, 720, 821), 0, BOUGHLADDER_OLD, 0, 721));
+    CHECK(reads(plainly(&t, 7, 720, 820), 0, BOUGHLADDER_FRESH, UINT32_MAX, 0));
+    CHECK(reads(plainly(&t, 7, 720, 821), 0, BOUGHLADDER_OLD, 0, -1));
     t.items[4 * 2 + 1] = 0;
     for (uint64_t recent = 0; recent < 3; recent++) {
         t.items[4 * 2 + 3] = recent - 1;
-        CHECK(reads(plainly(&t, 7, 720, 820), 0, BOUGHLADDER_FRESH, 0, 720));
+        CHECK(reads(plainly(&t, 7, 720, 820), 0, BOUGHLADDER_FRESH, 0, 0));
     }
 
     /* Where read refuses or misses her, the walk goes on. */
@@ -685,19 +751,19 @@ static void plain_walks(void) {
     copy(&before, &t);
     for (size_t k = 0; k < 4; k++) t.counters[k] = 1;
     CHECK(reads(boughladder_read(LENT(t), 7, 720, 820), BOUGHLADDER_BUSY, 0, 0, 0));
-    CHECK(reads(plainly(&t, 7, 720, 820), 0, BOUGHLADDER_FRESH, 5, 720));
+    CHECK(reads(plainly(&t, 7, 720, 820), 0, BOUGHLADDER_FRESH, 5, 0));
     copy(&t, &before);
     memset(t.slots, 0xa5, 4 * t.s);
     CHECK(reads(boughladder_read(LENT(t), 7, 720, 820), BOUGHLADDER_DAMAGED, 0, 0, 0));
-    CHECK(reads(plainly(&t, 7, 720, 820), 0, BOUGHLADDER_FRESH, 5, 720));
+    CHECK(reads(plainly(&t, 7, 720, 820), 0, BOUGHLADDER_FRESH, 5, 0));
     memset(t.slots, 0, 4 * t.s);
     CHECK(reads(boughladder_read(LENT(t), 7, 720, 820), 0, BOUGHLADDER_ABSENT, 0, 0));
-    CHECK(reads(plainly(&t, 7, 720, 820), 0, BOUGHLADDER_FRESH, 5, 720));
+    CHECK(reads(plainly(&t, 7, 720, 820), 0, BOUGHLADDER_FRESH, 5, 0));
 
     /* Slots and counters of wrong lengths are no refusal. */
     t.s = 12, t.c = 0;
     CHECK(reads(boughladder_read(LENT(t), 7, 720, 820), BOUGHLADDER_BAD_SHAPE, 0, 0, 0));
-    CHECK(reads(plainly(&t, 7, 720, 820), 0, BOUGHLADDER_FRESH, 5, 720));
+    CHECK(reads(plainly(&t, 7, 720, 820), 0, BOUGHLADDER_FRESH, 5, 0));
     CHECK(memcmp(t.items, before.items, 8 * t.i) == 0);
     give_back(&t), give_back(&before);
 }
@@ -763,12 +829,12 @@ static void garbage(size_t s, size_t c, size_t i) {
     copy(&before, &t);
 
     r = boughladder_read(LENT(t), animal, limit, now);
-    CHECK(same(&t, &before) && r.refusal <= 10 && r.kind <= 3);
+    CHECK(same(&t, &before) && r.refusal <= 10 && in_range(r, limit));
     walk = plainly(&t, animal, limit, now);
     CHECK(same(&t, &before) && alike(walk, walked(&t, animal, limit, now)) && (!made || alike(walk, r)));
     walked_on += walk.kind != BOUGHLADDER_ABSENT && r.refusal != 0;
     served = boughladder_serve(LENT(t), animal, limit, now);
-    CHECK(reads(served, r.refusal, r.kind, r.permission, r.age));
+    CHECK(alike(served, r));
     CHECK(same(&t, &before) || r.kind == BOUGHLADDER_FRESH);
     copy(&t, &before);
     CHECK(boughladder_find(LENT(t), animal).refusal <= 10 && same(&t, &before));
@@ -843,7 +909,7 @@ static void twins(int rounds, int cuts_too) {
                 break;
             case 2:
                 r = boughladder_serve(LENT(b), animal, 720, now);
-                CHECK(reads(boughladder_table_serve(&t, animal, 720, now), r.refusal, r.kind, r.permission, r.age));
+                CHECK(alike(boughladder_table_serve(&t, animal, 720, now), r));
                 break;
             case 3:
                 f = boughladder_find(LENT(b), animal);
@@ -851,7 +917,7 @@ static void twins(int rounds, int cuts_too) {
                 break;
             case 4:
                 r = boughladder_read(LENT(b), animal, 720, now);
-                CHECK(reads(boughladder_table_read(&t, animal, 720, now), r.refusal, r.kind, r.permission, r.age));
+                CHECK(alike(boughladder_table_read(&t, animal, 720, now), r));
                 r = boughladder_plain_read(b.items, b.i, animal, 720, now);
                 CHECK(alike(boughladder_table_plain_read(&t, animal, 720, now), r));
                 break;
@@ -898,7 +964,7 @@ static void twins(int rounds, int cuts_too) {
 int main(int n, char **words) {
     int rounds = n > 1 ? atoi(words[1]) : 400;
     layout(), hashes(), shapes(), sizes(), nothing_lent(), lanes(), texts(), records();
-    ages(), issues(), turns(), moves(), clocks(), the_list(), cuts(), plain(), plain_walks();
+    ages(), lefts(), issues(), turns(), moves(), clocks(), the_list(), cuts(), plain(), plain_walks();
     twins(3000, 1), twins(300, 0);
     /* Each length from 0 on, of one run beside two good ones. */
     for (size_t l = 0; l <= 2100; l++) {
