@@ -5,8 +5,9 @@ static uint32_t slots[BOUGHLADDER_SLOTS(64)], counters[16], more[65];
 static uint64_t items[BOUGHLADDER_ITEMS(200)];
 static int32_t signed_words[16];
 BoughladderTable table = BOUGHLADDER_TABLE(slots, counters, items);
-uint16_t wrong(uint32_t *pointer, const BoughladderTable *read_only);
-uint16_t wrong(uint32_t *pointer, const BoughladderTable *read_only) {
+void print(uint64_t minutes);
+uint16_t wrong(uint32_t *pointer, const BoughladderTable *read_only, uint64_t limit);
+uint16_t wrong(uint32_t *pointer, const BoughladderTable *read_only, uint64_t limit) {
     uint16_t answer = 0;
 #if WRONG == 0
     BoughladderTable other = BOUGHLADDER_TABLE(slots, counters, items);
@@ -17,6 +18,7 @@ uint16_t wrong(uint32_t *pointer, const BoughladderTable *read_only) {
     answer = (uint16_t)(answer + boughladder_table_set(&table, 1, 2, 3, 4).refusal);
     answer = (uint16_t)(answer + boughladder_table_set_standing(&table, 1, 2, 3, 4).refusal);
     answer = (uint16_t)(answer + boughladder_set(slots, 256, counters, 16, items, 800, 1, 2, 3, 4, 0).refusal);
+    answer = (uint16_t)(answer + (boughladder_table_read(&table, 1, limit, 3).left == BOUGHLADDER_LEAST_LEFT));
 #elif WRONG == 1 /* slots and counters swapped */
     BoughladderTable other = BOUGHLADDER_TABLE(counters, slots, items);
 #elif WRONG == 2 /* a pointer, whose length nobody knows */
@@ -49,10 +51,16 @@ uint16_t wrong(uint32_t *pointer, const BoughladderTable *read_only) {
     boughladder_plain_read(items, 800, 1, 2, 3);
 #elif WRONG == 16 /* the same over a table */
     boughladder_table_plain_read(&table, 1, 2, 3);
+#elif WRONG == 17 /* a caller of 2.x, which compares an age */
+    answer = boughladder_table_read(&table, 1, 720, 3).age <= limit;
+#elif WRONG == 18 /* the same with a call over the runs, and it prints it */
+    print(boughladder_plain_read(items, 800, 1, 720, 3).age);
+#elif WRONG == 19 /* only the name was changed: a negative number is larger than any limit */
+    answer = boughladder_table_serve(&table, 1, 720, 3).left <= limit;
 #endif
 #if WRONG >= 1 && WRONG <= 5
     answer = (uint16_t)other.slots_length;
 #endif
-    (void)more, (void)signed_words, (void)pointer, (void)read_only;
+    (void)more, (void)signed_words, (void)pointer, (void)read_only, (void)limit;
     return answer;
 }
