@@ -76,7 +76,9 @@ static void *antenna(void *counts) {
         over = gate.over;
         unlock();
         lanes[boughladder_lane(r)]++;
-        if (r.refusal != 0 || (r.kind == BOUGHLADDER_FRESH && r.permission != given(cow, (minute - r.age) / DAY)))
+        /* Her stamp is now, less the limit, and what is left of it. */
+        if (r.refusal != 0 ||
+            (r.kind == BOUGHLADDER_FRESH && r.permission != given(cow, (minute + (uint64_t)r.left - LIMIT) / DAY)))
             ++*wrong;
     }
     return NULL;

@@ -65,9 +65,9 @@ static void serve(uint64_t animal, uint64_t limit, uint64_t now, enum Boughladde
     if (r.refusal != 0)
         printf("refusal %u, %s\n", (unsigned)r.refusal, boughladder_refusal_text(r.refusal));
     else if (r.kind == BOUGHLADDER_FRESH)
-        printf("fresh, permission %" PRIu32 ", %" PRIu64 " minutes old\n", r.permission, r.age);
+        printf("fresh, permission %" PRIu32 ", %" PRId64 " minutes left\n", r.permission, r.left);
     else if (r.kind == BOUGHLADDER_OLD)
-        printf("old, her permission is %" PRIu64 " minutes old\n", r.age);
+        printf("old, %" PRId64 " minute%s overdue\n", -r.left, r.left == -1 ? "" : "s");
     else if (r.kind == BOUGHLADDER_AHEAD)
         printf("ahead, her permission is stamped later than now\n");
     else
@@ -78,7 +78,7 @@ static void serve(uint64_t animal, uint64_t limit, uint64_t now, enum Boughladde
 static int agreed(uint64_t animal, uint64_t now) {
     BoughladderReading a = boughladder_table_read(&table, animal, LIMIT, now);
     BoughladderReading b = boughladder_table_plain_read(&table, animal, LIMIT, now);
-    return a.refusal == b.refusal && a.kind == b.kind && a.permission == b.permission && a.age == b.age;
+    return a.refusal == b.refusal && a.kind == b.kind && a.permission == b.permission && a.left == b.left;
 }
 
 int main(void) {

@@ -22,8 +22,8 @@ static volatile uint64_t told; /* so that no call is left out */
 
 static void none(void) { told = 0; }
 static void fresh(void) { told = boughladder_table_fresh(&table); }
-static void read_one(void) { told = boughladder_table_read(&table, animal, 720, 100).age; }
-static void serve(void) { told = boughladder_table_serve(&table, animal, 720, 100).age; }
+static void read_one(void) { told = boughladder_table_read(&table, animal, 720, 100).kind; }
+static void serve(void) { told = boughladder_table_serve(&table, animal, 720, 100).kind; }
 static void find(void) { told = boughladder_table_find(&table, animal).place; }
 static void set(void) { told = boughladder_table_set(&table, animal, 1, 100, 100).visits; }
 static void set_cut(void) { told = boughladder_table_set_cut(&table, animal, 1, 100, 100, k).visits; }
@@ -32,7 +32,7 @@ static void delete_cut(void) { told = boughladder_table_delete_cut(&table, anima
 static void evict(void) { told = boughladder_table_evict(&table, hand).hand; }
 static void evict_cut(void) { told = boughladder_table_evict_cut(&table, hand, k).hand; }
 static void list(void) { told = boughladder_table_list(&table, buffer, sizeof buffer).count; }
-static void plain_read(void) { told = boughladder_table_plain_read(&table, animal, 720, 100).age; }
+static void plain_read(void) { told = boughladder_table_plain_read(&table, animal, 720, 100).kind; }
 
 static struct {
     const char *name;

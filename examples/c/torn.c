@@ -13,7 +13,7 @@
 
 #include "boughladder.h"
 
-/* Permission and stamp are the same number below NOW, so permission and age make NOW. */
+/* Permission and stamp are the same number below NOW, and the limit is NOW: so that number is left of it too. */
 enum { COW = 4711, NOW = 10000, ENOUGH = 20 };
 
 /* Item words 1 and 2, permission and stamp, are put on two sides of a border between cache lines of 64 bytes: the
@@ -66,16 +66,16 @@ static unsigned long reads(double limit) {
     while (torn < ENOUGH && (asked % 1000 != 0 || seconds() < end)) {
         BoughladderReading r;
         enter();
-        r = boughladder_table_read(&table, COW, BOUGHLADDER_LARGEST_LIMIT, NOW);
+        r = boughladder_table_read(&table, COW, NOW, NOW);
         leave();
         asked++;
         /* Absent stands between her delete and the next set: with the mutex nobody sees it. */
         if (r.refusal == BOUGHLADDER_BUSY || (r.refusal == 0 && r.kind == BOUGHLADDER_ABSENT)) {
             between++;
-        } else if (r.refusal != 0 || r.kind != BOUGHLADDER_FRESH || r.permission + r.age != NOW) {
+        } else if (r.refusal != 0 || r.kind != BOUGHLADDER_FRESH || r.left != (int64_t)r.permission) {
             if (torn++ == 0)
-                printf("torn: permission %" PRIu32 " with stamp %" PRIu64 " (refusal %u, kind %u)\n", r.permission,
-                       NOW - r.age, (unsigned)r.refusal, (unsigned)r.kind);
+                printf("torn: permission %" PRIu32 " with stamp %" PRId64 " (refusal %u, kind %u)\n", r.permission,
+                       r.left, (unsigned)r.refusal, (unsigned)r.kind);
         }
     }
     over = 1;
