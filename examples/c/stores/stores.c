@@ -50,7 +50,7 @@ static void make(const char *op, const uint64_t *n) {
     a[0] = (uint64_t)d + r.refusal + f.refusal + t.refusal + e.refusal + l.refusal;
     a[1] = r.kind + f.kind + t.visits + e.victim + l.count;
     a[2] = r.permission + f.place + t.moves + e.looked;
-    a[3] = r.age + e.hand;
+    a[3] = (uint64_t)r.left + e.hand;
     put(a, 8, 4), put(slots, 4, 64), put(counters, 4, 8), put(items, 8, 256), put(buffer, 1, 64);
 }
 

@@ -109,10 +109,11 @@ def check_asked(animal, limit, now):
 def judged(t, place, limit, now):
     permission, stamp = t.item(place, 1) % 2**32, t.item(place, 2)
     if stamp == TOP:
-        return 0, 1, permission, 0
+        return 0, 1, permission, limit
     if stamp > now:
         return 0, 3, 0, 0
-    return (0, 1, permission, now - stamp) if now - stamp <= limit else (0, 2, 0, now - stamp)
+    left = max(limit - (now - stamp), -2**62)
+    return (0, 1, permission, left) if left >= 0 else (0, 2, 0, left % 2**64)  # the bits that stores.c writes
 
 
 def read(t, animal, limit, now):
