@@ -38,7 +38,7 @@ fn main() -> Result<(), Refusal> {
     hand = gone.hand;
     println!("cow {} evicted, {} places looked at, the hand is at {hand}", gone.victim, gone.looked);
     table.set(3105, 1, 830, 831)?;
-    assert_eq!(table.read(3105, 720, 840), Ok(Reading::Fresh { permission: 1, age: 10 }));
+    assert_eq!(table.read(3105, 720, 840), Ok(Reading::Fresh { permission: 1, left: 710 }));
     assert_eq!(table.delete(gone.victim), Err(Refusal::Nobody));
     let mut buffer = [0; boughladder::list_bytes(3)];
     let records = table.list(&mut buffer)?;

@@ -5,7 +5,7 @@ pub struct Reading {
     pub refusal: u16,
     pub kind: u16,
     pub permission: u32,
-    pub age: u64,
+    pub left: i64,
 }
 
 #[repr(C)]

@@ -44,6 +44,8 @@ pub const fn list_bytes(m: usize) -> usize {
 pub const RECORD_BYTES: usize = 20;
 /// The largest limit in minutes: a week.
 pub const LARGEST_LIMIT: u64 = 10080;
+/// The least that is told to be left, -2^62 minutes: what would be less is told as this.
+pub const LEAST_LEFT: i64 = -(1 << 62);
 /// The stamp of a standing permission. It is no minute.
 pub const STANDING: u64 = u64::MAX;
 /// Bit 0 of a permission.
@@ -141,14 +143,15 @@ impl fmt::Display for Refusal {
 impl std::error::Error for Refusal {}
 
 /// What read, serve and plain read say. Fresh alone opens nothing: see [`lane`].
+/// `left` is the minutes of the limit that are left, [`LEAST_LEFT`] at the least.
 #[derive(Clone, Copy, Debug, PartialEq, Eq)]
 pub enum Reading {
     /// The animal is not held.
     Absent,
-    /// A permission within the limit, or a standing one, whose age is 0.
-    Fresh { permission: u32, age: u64 },
-    /// A permission beyond the limit: its age is told, and it is not.
-    Old { age: u64 },
+    /// A permission within the limit: 0 is left in the last good minute. A standing one has the whole limit left.
+    Fresh { permission: u32, left: i64 },
+    /// A permission beyond the limit: `-left`, the minutes overdue, is told, and it is not. `left` is below 0.
+    Old { left: i64 },
     /// The stamp is later than now.
     Ahead,
 }
@@ -279,8 +282,8 @@ fn done<T>(refusal: u32, value: T) -> Result<T, Refusal> {
 
 fn told(r: ffi::Reading) -> Result<Reading, Refusal> {
     let reading = match r.kind {
-        1 => Reading::Fresh { permission: r.permission, age: r.age },
-        2 => Reading::Old { age: r.age },
+        1 => Reading::Fresh { permission: r.permission, left: r.left },
+        2 => Reading::Old { left: r.left },
         3 => Reading::Ahead,
         _ => Reading::Absent,
     };
@@ -336,7 +339,7 @@ impl Table<'_> {
         stored(writes!(self, boughladder_set, animal, permission, issued, now, 0))
     }
 
-    /// Stores a standing permission, over any: it is always fresh, with age 0. Its minutes are tested and then dropped.
+    /// Stores a standing permission, over any: always fresh, the whole limit left. Its minutes are only tested.
     pub fn set_standing(&mut self, animal: u64, permission: u32, issued: u64, now: u64) -> Result<Stored, Refusal> {
         stored(writes!(self, boughladder_set, animal, permission, issued, now, 1))
     }

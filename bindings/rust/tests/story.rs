@@ -22,8 +22,8 @@ fn stored(visits: usize, moves: usize) -> Result<Stored, Refusal> {
     Ok(Stored { visits, moves })
 }
 
-fn fresh(permission: u32, age: u64) -> Result<Reading, Refusal> {
-    Ok(Reading::Fresh { permission, age })
+fn fresh(permission: u32, left: i64) -> Result<Reading, Refusal> {
+    Ok(Reading::Fresh { permission, left })
 }
 
 #[test]
@@ -55,11 +55,11 @@ fn ages() {
     let mut table = memory.table();
     table.fresh().unwrap();
     assert_eq!(table.set(7, 5, 100, 100), stored(1, 0));
-    assert_eq!(table.read(7, 720, 820), fresh(5, 720));
-    assert_eq!(table.read(7, 720, 821), Ok(Reading::Old { age: 721 }));
+    assert_eq!(table.read(7, 720, 820), fresh(5, 0));
+    assert_eq!(table.read(7, 720, 821), Ok(Reading::Old { left: -1 }));
     assert_eq!(table.read(7, 720, 99), Ok(Reading::Ahead));
     assert_eq!(table.read(8, 720, 100), Ok(Reading::Absent));
-    assert_eq!(table.read(7, LARGEST_LIMIT, 10180), fresh(5, 10080));
+    assert_eq!(table.read(7, LARGEST_LIMIT, 10180), fresh(5, 0));
     assert_eq!(table.read(7, LARGEST_LIMIT + 1, 100), Err(Refusal::BadTime));
     assert_eq!(table.read(7, 720, u64::MAX), Err(Refusal::BadTime));
     assert_eq!(table.set(7, 5, u64::MAX, u64::MAX), Err(Refusal::BadTime));
@@ -67,6 +67,43 @@ fn ages() {
     assert_eq!(table.set_standing(7, 6, 100, 100), stored(0, 0));
     assert_eq!(table.read(7, 0, u64::MAX - 1), fresh(6, 0));
     assert_eq!(table.items[..4], [7, 6, STANDING, 1]);
+}
+
+// What read, plain read and serve say of a held animal with that stamp.
+fn of_stamp(stamp: u64, limit: u64, now: u64) -> Result<Reading, Refusal> {
+    let mut memory = lent(slots(8), 4, items(1));
+    let mut table = holding(&mut memory);
+    table.items[2] = stamp;
+    let said = table.read(7, limit, now);
+    assert_eq!(plainly(&table, 7, limit, now), said);
+    assert_eq!(table.serve(7, limit, now), said);
+    said
+}
+
+#[test]
+fn what_is_left() {
+    let old = |left| Ok(Reading::Old { left });
+    assert_eq!(LEAST_LEFT, -4611686018427387904);
+    for limit in [0, 1, 720, LARGEST_LIMIT] {
+        let whole = limit as i64;
+        for stamp in [0, 100, 1 << 62] {
+            let last = stamp + limit;
+            assert_eq!(of_stamp(stamp, limit, stamp), fresh(5, whole));
+            assert_eq!(of_stamp(stamp, limit, last), fresh(5, 0));
+            assert_eq!(of_stamp(stamp, limit, last + 1), old(-1));
+            assert_eq!(of_stamp(stamp, limit, last + 4294967296), old(-4294967296));
+            // The lower end, and beyond it.
+            assert_eq!(of_stamp(stamp, limit, last + 4611686018427387903), old(-4611686018427387903));
+            for more in [0, 1, (1 << 62) - 1, 1 << 62] {
+                assert_eq!(of_stamp(stamp, limit, last + 4611686018427387904 + more), old(LEAST_LEFT));
+            }
+            assert_eq!(of_stamp(stamp, limit, u64::MAX - 1), old(LEAST_LEFT));
+            assert_eq!(of_stamp(stamp + 1, limit, stamp), Ok(Reading::Ahead));
+            assert_eq!(of_stamp(STANDING, limit, stamp), fresh(5, whole));
+        }
+        assert_eq!(of_stamp(u64::MAX - 1, limit, 0), Ok(Reading::Ahead));
+        assert_eq!(of_stamp(STANDING, limit, u64::MAX - 1), fresh(5, whole));
+    }
 }
 
 #[test]
@@ -77,19 +114,19 @@ fn the_network_drops() {
     assert_eq!(table.set(4711, 1, 100, 100), stored(1, 0));
     assert_eq!(table.set(4712, 1, 100, 100), stored(1, 0));
     assert_eq!(table.set(4713, 2, 100, 100), stored(1, 0));
-    assert_eq!(table.serve(4711, 720, 130), fresh(1, 30));
-    assert_eq!(table.serve(4712, 720, 130), fresh(1, 30));
-    assert_eq!(table.serve(4713, 720, 130), fresh(2, 30));
-    assert_eq!(table.read(4712, 720, 200), fresh(1, 100));
-    assert_eq!(table.serve(4711, 720, 820), fresh(1, 720));
-    assert_eq!(table.serve(4711, 720, 821), Ok(Reading::Old { age: 721 }));
+    assert_eq!(table.serve(4711, 720, 130), fresh(1, 690));
+    assert_eq!(table.serve(4712, 720, 130), fresh(1, 690));
+    assert_eq!(table.serve(4713, 720, 130), fresh(2, 690));
+    assert_eq!(table.read(4712, 720, 200), fresh(1, 620));
+    assert_eq!(table.serve(4711, 720, 820), fresh(1, 0));
+    assert_eq!(table.serve(4711, 720, 821), Ok(Reading::Old { left: -1 }));
     assert_eq!(lane(table.serve(4711, 720, 821)), Lane::Holding);
-    assert_eq!(table.serve(4712, 720, 840), Ok(Reading::Old { age: 740 }));
-    assert_eq!(table.serve(4713, 720, 840), Ok(Reading::Old { age: 740 }));
+    assert_eq!(table.serve(4712, 720, 840), Ok(Reading::Old { left: -20 }));
+    assert_eq!(table.serve(4713, 720, 840), Ok(Reading::Old { left: -20 }));
     assert_eq!(table.set_standing(900, 2, 840, 840), stored(1, 0));
-    assert_eq!(table.serve(900, 720, 840), fresh(2, 0));
+    assert_eq!(table.serve(900, 720, 840), fresh(2, 720));
     assert_eq!(table.serve(4799, 720, 840), Ok(Reading::Absent));
-    assert_eq!(table.read(4711, 10080, 840), fresh(1, 740));
+    assert_eq!(table.read(4711, 10080, 840), fresh(1, 9340));
     assert_eq!(table.read(4711, 10081, 840), Err(Refusal::BadTime));
 
     // The network is back: 4712 was treated, and her fresh permission is to hold her.
@@ -100,17 +137,17 @@ fn the_network_drops() {
     assert_eq!(table.set(4712, 1, 100, 902), Err(Refusal::Late));
     assert_eq!(table.set(4713, 2, 100, 902), stored(0, 0));
     assert_eq!(table.set(4714, 1, 100, 902), stored(1, 0));
-    assert_eq!(table.serve(4711, 720, 905), fresh(1, 15));
-    assert_eq!(table.serve(4712, 720, 905), fresh(0, 15));
-    assert_eq!(table.serve(4713, 720, 905), Ok(Reading::Old { age: 805 }));
-    assert_eq!(table.serve(4714, 720, 905), Ok(Reading::Old { age: 805 }));
+    assert_eq!(table.serve(4711, 720, 905), fresh(1, 705));
+    assert_eq!(table.serve(4712, 720, 905), fresh(0, 705));
+    assert_eq!(table.serve(4713, 720, 905), Ok(Reading::Old { left: -85 }));
+    assert_eq!(table.serve(4714, 720, 905), Ok(Reading::Old { left: -85 }));
     assert_eq!(table.set(4713, 2, 890, 906), stored(0, 0));
     assert_eq!(table.set(4714, 1, 890, 906), stored(0, 0));
-    assert_eq!(table.serve(4713, 720, 910), fresh(2, 20));
+    assert_eq!(table.serve(4713, 720, 910), fresh(2, 700));
     assert_eq!(lane(table.serve(4711, 720, 910)), Lane::Milking);
     assert_eq!(lane(table.serve(4712, 720, 910)), Lane::Holding);
     assert_eq!(lane(table.serve(4713, 720, 910)), Lane::Grazing);
-    assert_eq!(table.serve(4714, 720, 910), fresh(1, 20));
+    assert_eq!(table.serve(4714, 720, 910), fresh(1, 700));
     assert_eq!(table.read(4711, 720, 99), Ok(Reading::Ahead));
     assert_eq!(table.set(4715, 1, 100, 100), stored(1, 0));
     assert_eq!(table.read(4715, 720, 99), Ok(Reading::Ahead));
@@ -165,7 +202,7 @@ fn a_late_list() {
     let mut memory = lent(slots(8), 4, items(1));
     let mut table = holding(&mut memory);
     assert_eq!(refused(&mut table, 7, 99, 300, false), Refusal::Late);
-    assert_eq!(table.read(7, 720, 300), fresh(5, 200));
+    assert_eq!(table.read(7, 720, 300), fresh(5, 520));
     // Not held, and no place: that is another refusal.
     assert_eq!(refused(&mut table, 8, 99, 300, false), Refusal::NoPlace);
     // The same minute is stored, and so is a later one, by the cut form too.
@@ -208,10 +245,10 @@ fn late_and_nothing_held() {
     assert_eq!(refused(&mut table, 7, 90, 300, false), Refusal::Late);
     table.delete(7).unwrap();
     assert_eq!(table.set(7, 1, 90, 300), stored(1, 0));
-    assert_eq!(table.read(7, 720, 300), fresh(1, 210));
+    assert_eq!(table.read(7, 720, 300), fresh(1, 510));
     table.evict(0).unwrap();
     assert_eq!(table.set(7, 1, 80, 300), stored(1, 0));
-    assert_eq!(table.read(7, 720, 300), fresh(1, 220));
+    assert_eq!(table.read(7, 720, 300), fresh(1, 500));
 }
 
 #[test]
@@ -222,10 +259,10 @@ fn a_clock_that_ran_ahead() {
     // Put right, it makes every true list late, until she is deleted.
     assert_eq!(table.read(7, 720, 900), Ok(Reading::Ahead));
     assert_eq!(refused(&mut table, 7, 900, 900, false), Refusal::Late);
-    assert_eq!(table.read(7, 720, 5000), fresh(1, 0));
+    assert_eq!(table.read(7, 720, 5000), fresh(1, 720));
     table.delete(7).unwrap();
     assert_eq!(table.set(7, 1, 900, 900), stored(1, 0));
-    assert_eq!(table.read(7, 720, 900), fresh(1, 0));
+    assert_eq!(table.read(7, 720, 900), fresh(1, 720));
 }
 
 #[test]
@@ -252,7 +289,7 @@ fn room_is_made() {
     }
     assert_eq!(table.set(5, 1, 100, 100), stored(5, 1));
     assert_eq!((table.slots[12], table.counters[0]), (131074, 20));
-    assert_eq!(table.read(1012, 720, 100), fresh(1, 0));
+    assert_eq!(table.read(1012, 720, 100), fresh(1, 720));
     assert_eq!(table.set(6, 1, 100, 100), Err(Refusal::NoPlace));
 
     let mut memory = lent(slots(2), 1, items(9));
@@ -283,7 +320,7 @@ fn the_hand() {
     table.set(1, 1, 100, 100).unwrap();
     assert_eq!(table.evict_cut(1, 1), Ok(Evicted { victim: 1, looked: 6, hand: 1 }));
     assert_eq!(table.items[..4], [1, 1, 100, 0]);
-    assert_eq!(table.serve(1, 720, 100), fresh(1, 0));
+    assert_eq!(table.serve(1, 720, 100), fresh(1, 720));
     assert_eq!(table.items[3], 1);
     assert_eq!(table.evict(1), Ok(Evicted { victim: 1, looked: 6, hand: 1 }));
     assert_eq!(table.read(1, 720, 100), Ok(Reading::Absent));
@@ -307,7 +344,7 @@ fn the_power_goes() {
                 assert_eq!(table.delete(7), Err(Refusal::Busy));
                 assert_eq!(table.find(7), Err(Refusal::Busy));
             }
-            _ => assert_eq!(said, fresh(5, 10)),
+            _ => assert_eq!(said, fresh(5, 710)),
         }
         // Only fresh helps.
         table.fresh().unwrap();
@@ -315,7 +352,7 @@ fn the_power_goes() {
         // Seven stores of a delete.
         assert_eq!(table.delete_cut(7, k), Ok(()));
         match (k, table.read(7, 720, 100)) {
-            (0, said) => assert_eq!(said, fresh(5, 0)),
+            (0, said) => assert_eq!(said, fresh(5, 720)),
             (1..=6, said) => assert_eq!(said, Err(Refusal::Busy)),
             (_, said) => assert_eq!(said, Ok(Reading::Absent)),
         }
@@ -333,7 +370,7 @@ fn a_damaged_word() {
         assert_eq!(table.read(1, 720, 110), Err(Refusal::Damaged));
     }
     table.slots[1] = 65540;
-    assert_eq!(table.read(1, 720, 110), fresh(1, 10));
+    assert_eq!(table.read(1, 720, 110), fresh(1, 710));
 }
 
 // Plain read over the table and over its items alone, which say the same.
@@ -364,7 +401,7 @@ fn plain_read_over_a_day() {
         |t| t.set(4711, 1, 100, 100).is_ok(),
         |t| t.set(4712, 0, 100, 100).is_ok(),
         |t| t.set(4713, u32::MAX, 100, 100).is_ok(),
-        |t| t.serve(4711, 720, 820) == fresh(1, 720),
+        |t| t.serve(4711, 720, 820) == fresh(1, 0),
         |t| t.set_standing(900, 2, 840, 840).is_ok(),
         |t| t.set(4711, 3, 890, 900).is_ok(),
         |t| t.set(4711, 1, 100, 902) == Err(Refusal::Late),
@@ -398,12 +435,12 @@ fn plain_read_judges() {
     let mut memory = lent(slots(2), 1, items(3));
     let table = memory.table();
     table.items.copy_from_slice(&[8, 1, 50, 1, 0, 0, 0, 0, 7, 5, 100, 0]);
-    assert_eq!(plainly(&table, 7, 720, 820), fresh(5, 720));
-    assert_eq!(plainly(&table, 7, 720, 821), Ok(Reading::Old { age: 721 }));
+    assert_eq!(plainly(&table, 7, 720, 820), fresh(5, 0));
+    assert_eq!(plainly(&table, 7, 720, 821), Ok(Reading::Old { left: -1 }));
     assert_eq!(plainly(&table, 7, 720, 99), Ok(Reading::Ahead));
-    assert_eq!(plainly(&table, 7, LARGEST_LIMIT, 10180), fresh(5, 10080));
-    assert_eq!(plainly(&table, 7, 0, u64::MAX - 1), Ok(Reading::Old { age: u64::MAX - 101 }));
-    assert_eq!(plainly(&table, 8, 720, 770), fresh(1, 720));
+    assert_eq!(plainly(&table, 7, LARGEST_LIMIT, 10180), fresh(5, 0));
+    assert_eq!(plainly(&table, 7, 0, u64::MAX - 1), Ok(Reading::Old { left: LEAST_LEFT }));
+    assert_eq!(plainly(&table, 8, 720, 770), fresh(1, 0));
     assert_eq!(plainly(&table, 9, 720, 820), Ok(Reading::Absent));
     assert_eq!(plainly(&table, 7 + (1 << 32), 720, 820), Ok(Reading::Absent));
     // It marks nobody.
@@ -412,16 +449,16 @@ fn plain_read_judges() {
     // A permission word above 32 bits is told modulo 2^32.
     for (word, permission) in [(5 + (1 << 32), 5), (1 << 32, 0), (u64::MAX, u32::MAX)] {
         table.items[9] = word;
-        assert_eq!(plainly(&table, 7, 720, 820), fresh(permission, 720));
+        assert_eq!(plainly(&table, 7, 720, 820), fresh(permission, 0));
     }
     table.items[10] = STANDING;
     assert_eq!(plainly(&table, 7, 0, 0), fresh(u32::MAX, 0));
-    assert_eq!(plainly(&table, 7, 720, u64::MAX - 1), fresh(u32::MAX, 0));
+    assert_eq!(plainly(&table, 7, 720, u64::MAX - 1), fresh(u32::MAX, 720));
 
     // Twins: the first place decides, whatever the other one is.
     table.items.copy_from_slice(&[8, 1, 50, 1, 7, 6, 100, 1, 7, 5, 110, 1]);
-    assert_eq!(plainly(&table, 7, 720, 820), fresh(6, 720));
-    assert_eq!(plainly(&table, 7, 720, 821), Ok(Reading::Old { age: 721 }));
+    assert_eq!(plainly(&table, 7, 720, 820), fresh(6, 0));
+    assert_eq!(plainly(&table, 7, 720, 821), Ok(Reading::Old { left: -1 }));
     table.items[6] = 900;
     assert_eq!(plainly(&table, 7, 720, 820), Ok(Reading::Ahead));
 }
@@ -438,8 +475,8 @@ fn plain_read_refuses() {
             words[last..last + 4].copy_from_slice(&[7, 5, 100, 1]);
         }
         let good = [4, 8, 16380, 16384].contains(&length);
-        let said = if good { fresh(5, 720) } else { Err(Refusal::BadShape) };
-        assert_eq!(plain_read(words, 7, 720, 820), said, "{length}");
+        let said = if good { fresh(5, 10) } else { Err(Refusal::BadShape) };
+        assert_eq!(plain_read(words, 7, 720, 810), said, "{length}");
         // Its turn is before those of the animal and the times, in this order.
         let first = |otherwise| Err(if good { otherwise } else { Refusal::BadShape });
         assert_eq!(plain_read(words, 0, 720, 820), first(Refusal::NoAnimal));
@@ -459,7 +496,7 @@ fn plain_read_refuses() {
         let table = memory.table();
         table.items.copy_from_slice(&[7, 5, 100, 1]);
         assert_eq!(table.read(7, 720, 820), Err(Refusal::BadShape));
-        assert_eq!(plainly(&table, 7, 720, 820), fresh(5, 720));
+        assert_eq!(plainly(&table, 7, 720, 820), fresh(5, 0));
     }
 }
 
@@ -472,7 +509,7 @@ fn plain_read_walks_on() {
         table.fresh().unwrap();
         assert_eq!(table.set_cut(7, 5, 90, 100, k), stored(1, 0));
         assert_eq!(table.read(7, 720, 100), Err(Refusal::Busy));
-        let half = [Ok(Reading::Absent), fresh(0, 100), fresh(5, 100), fresh(5, 10)];
+        let half = [Ok(Reading::Absent), fresh(0, 620), fresh(5, 620), fresh(5, 710)];
         assert_eq!(plainly(&table, 7, 720, 100), half[(k as usize - 1).min(3)]);
     }
 
@@ -484,7 +521,7 @@ fn plain_read_walks_on() {
     for (word, said) in [(0xdead_beef, Err(Refusal::Damaged)), (0, Ok(Reading::Absent))] {
         table.slots[slot] = word;
         assert_eq!(table.read(1, 720, 110), said);
-        assert_eq!(plainly(&table, 1, 720, 110), fresh(1, 10));
+        assert_eq!(plainly(&table, 1, 720, 110), fresh(1, 710));
     }
 }
 
@@ -495,7 +532,7 @@ fn lanes() {
         [by(0), by(1), by(2), by(3), by(4)],
         [Lane::Holding, Lane::Milking, Lane::Grazing, Lane::Milking, Lane::Holding]
     );
-    for held in [Ok(Reading::Absent), Ok(Reading::Old { age: 1 }), Ok(Reading::Ahead), Err(Refusal::Busy)] {
+    for held in [Ok(Reading::Absent), Ok(Reading::Old { left: -1 }), Ok(Reading::Ahead), Err(Refusal::Busy)] {
         assert_eq!(lane(held), Lane::Holding);
     }
 }
