@@ -36,6 +36,7 @@ HOLDING, MILKING, GRAZING = 'holding', 'milking', 'grazing'
 
 RECORD_BYTES = 20
 LARGEST_LIMIT = 10080    # minutes: a week
+LEAST_LEFT = -2 ** 62    # minutes; what would be less is told as this
 STANDING = 2 ** 64 - 1   # the stamp of a standing permission; no minute
 MAY_MILK, MAY_GRAZE = 1, 2
 
@@ -66,7 +67,7 @@ class Reading(NamedTuple):
     """What read, serve and plain read say. Fresh alone opens nothing: see lane()."""
     kind: str                          # absent, fresh, old or ahead
     permission: Optional[int] = None   # where fresh
-    age: Optional[int] = None          # minutes; where fresh or old
+    left: Optional[int] = None         # minutes of the limit that are left; where fresh (0 or more) or old (below 0)
 
 
 class Stored(NamedTuple):
@@ -106,7 +107,7 @@ def records(data):
 
 class _Reading(ctypes.Structure):
     _fields_ = [('refusal', ctypes.c_uint16), ('kind', ctypes.c_uint16), ('permission', ctypes.c_uint32),
-                ('age', ctypes.c_uint64)]
+                ('left', ctypes.c_int64)]
 
 
 class _Finding(ctypes.Structure):
@@ -190,9 +191,9 @@ def _asked(animal, limit, now):
 
 def _told(r):
     if r.kind == 1:
-        return Reading(FRESH, r.permission, r.age)
+        return Reading(FRESH, r.permission, r.left)
     if r.kind == 2:
-        return Reading(OLD, None, r.age)
+        return Reading(OLD, None, r.left)
     return Reading(AHEAD if r.kind == 3 else ABSENT)
 
 
@@ -280,7 +281,7 @@ class Table:
         return self._set('set', animal, permission, issued, now, 0)
 
     def set_standing(self, animal, permission, issued, now):
-        """Stores a standing permission, over any: always fresh, with age 0. Its minutes are tested and then dropped."""
+        """Stores a standing permission, over any: always fresh, the whole limit left. Its minutes are only tested."""
         return self._set('set', animal, permission, issued, now, 1)
 
     def set_cut(self, animal, permission, issued, now, k):

@@ -3,8 +3,8 @@ import ctypes
 import threading
 import unittest
 
-from boughladder import (ABSENT, AHEAD, FRESH, GRAZING, HOLDING, LARGEST_LIMIT, MILKING, OLD, REFUSALS, STANDING,
-                         Evicted, Reading, Record, Refusal, Stored, Table, lane, plain_read, records)
+from boughladder import (ABSENT, AHEAD, FRESH, GRAZING, HOLDING, LARGEST_LIMIT, LEAST_LEFT, MILKING, OLD, REFUSALS,
+                         STANDING, Evicted, Reading, Record, Refusal, Stored, Table, lane, plain_read, records)
 
 
 def lent(s, c, i):
@@ -20,12 +20,12 @@ def made(s, c, i):
     return table
 
 
-def fresh(permission, age):
-    return Reading(FRESH, permission, age)
+def fresh(permission, left):
+    return Reading(FRESH, permission, left)
 
 
-def old(age):
-    return Reading(OLD, None, age)
+def old(left):
+    return Reading(OLD, None, left)
 
 
 class Story(unittest.TestCase):
@@ -51,11 +51,11 @@ class Story(unittest.TestCase):
     def test_ages(self):
         table = made(32, 4, 32)
         self.assertEqual(table.set(7, 5, 100, 100), Stored(1, 0))
-        self.assertEqual(table.read(7, 720, 820), fresh(5, 720))
-        self.assertEqual(table.read(7, 720, 821), old(721))
+        self.assertEqual(table.read(7, 720, 820), fresh(5, 0))
+        self.assertEqual(table.read(7, 720, 821), old(-1))
         self.assertEqual(table.read(7, 720, 99), Reading(AHEAD))
         self.assertEqual(table.read(8, 720, 100), Reading(ABSENT))
-        self.assertEqual(table.read(7, LARGEST_LIMIT, 10180), fresh(5, 10080))
+        self.assertEqual(table.read(7, LARGEST_LIMIT, 10180), fresh(5, 0))
         self.refused(3, table.read, 7, LARGEST_LIMIT + 1, 100)
         self.refused(3, table.read, 7, 720, 2 ** 64 - 1)
         self.refused(3, table.set, 7, 5, 100, 2 ** 64 - 1)
@@ -64,24 +64,52 @@ class Story(unittest.TestCase):
         self.assertEqual(table.read(7, 0, 2 ** 64 - 2), fresh(6, 0))
         self.assertEqual(table.items[:4], [7, 6, STANDING, 1])
 
+    def of_stamp(self, stamp, limit, now):
+        """What read, plain read and serve say of a held animal with that stamp."""
+        table = self.holding()
+        table.items[2] = stamp
+        said = table.read(7, limit, now)
+        self.assertEqual(self.plainly(table, 7, limit, now), said)
+        self.assertEqual(table.serve(7, limit, now), said)
+        return said
+
+    def test_what_is_left(self):
+        self.assertEqual(LEAST_LEFT, -4611686018427387904)
+        for limit in (0, 1, 720, LARGEST_LIMIT):
+            for stamp in (0, 100, 2 ** 62):
+                last = stamp + limit
+                self.assertEqual(self.of_stamp(stamp, limit, stamp), fresh(5, limit))
+                self.assertEqual(self.of_stamp(stamp, limit, last), fresh(5, 0))
+                self.assertEqual(self.of_stamp(stamp, limit, last + 1), old(-1))
+                self.assertEqual(self.of_stamp(stamp, limit, last + 2 ** 32), old(-2 ** 32))
+                # The lower end, and beyond it.
+                self.assertEqual(self.of_stamp(stamp, limit, last + 2 ** 62 - 1), old(1 - 2 ** 62))
+                for overdue in (2 ** 62, 2 ** 62 + 1, 2 ** 63 - 1, 2 ** 63):
+                    self.assertEqual(self.of_stamp(stamp, limit, last + overdue), old(LEAST_LEFT))
+                self.assertEqual(self.of_stamp(stamp, limit, 2 ** 64 - 2), old(LEAST_LEFT))
+                self.assertEqual(self.of_stamp(stamp + 1, limit, stamp), Reading(AHEAD))
+                self.assertEqual(self.of_stamp(STANDING, limit, stamp), fresh(5, limit))
+            self.assertEqual(self.of_stamp(2 ** 64 - 2, limit, 0), Reading(AHEAD))
+            self.assertEqual(self.of_stamp(STANDING, limit, 2 ** 64 - 2), fresh(5, limit))
+
     def test_the_network_drops(self):
         table = made(32, 4, 32)
         self.assertEqual(table.set(4711, 1, 100, 100), Stored(1, 0))
         self.assertEqual(table.set(4712, 1, 100, 100), Stored(1, 0))
         self.assertEqual(table.set(4713, 2, 100, 100), Stored(1, 0))
-        self.assertEqual(table.serve(4711, 720, 130), fresh(1, 30))
-        self.assertEqual(table.serve(4712, 720, 130), fresh(1, 30))
-        self.assertEqual(table.serve(4713, 720, 130), fresh(2, 30))
-        self.assertEqual(table.read(4712, 720, 200), fresh(1, 100))
-        self.assertEqual(table.serve(4711, 720, 820), fresh(1, 720))
-        self.assertEqual(table.serve(4711, 720, 821), old(721))
+        self.assertEqual(table.serve(4711, 720, 130), fresh(1, 690))
+        self.assertEqual(table.serve(4712, 720, 130), fresh(1, 690))
+        self.assertEqual(table.serve(4713, 720, 130), fresh(2, 690))
+        self.assertEqual(table.read(4712, 720, 200), fresh(1, 620))
+        self.assertEqual(table.serve(4711, 720, 820), fresh(1, 0))
+        self.assertEqual(table.serve(4711, 720, 821), old(-1))
         self.assertEqual(lane(table.serve(4711, 720, 821)), HOLDING)
-        self.assertEqual(table.serve(4712, 720, 840), old(740))
-        self.assertEqual(table.serve(4713, 720, 840), old(740))
+        self.assertEqual(table.serve(4712, 720, 840), old(-20))
+        self.assertEqual(table.serve(4713, 720, 840), old(-20))
         self.assertEqual(table.set_standing(900, 2, 840, 840), Stored(1, 0))
-        self.assertEqual(table.serve(900, 720, 840), fresh(2, 0))
+        self.assertEqual(table.serve(900, 720, 840), fresh(2, 720))
         self.assertEqual(table.serve(4799, 720, 840), Reading(ABSENT))
-        self.assertEqual(table.read(4711, 10080, 840), fresh(1, 740))
+        self.assertEqual(table.read(4711, 10080, 840), fresh(1, 9340))
         self.refused(3, table.read, 4711, 10081, 840)
 
         # The network is back: 4712 was treated, and her fresh permission is to hold her.
@@ -92,17 +120,17 @@ class Story(unittest.TestCase):
         self.refused(11, table.set, 4712, 1, 100, 902)
         self.assertEqual(table.set(4713, 2, 100, 902), Stored(0, 0))
         self.assertEqual(table.set(4714, 1, 100, 902), Stored(1, 0))
-        self.assertEqual(table.serve(4711, 720, 905), fresh(1, 15))
-        self.assertEqual(table.serve(4712, 720, 905), fresh(0, 15))
-        self.assertEqual(table.serve(4713, 720, 905), old(805))
-        self.assertEqual(table.serve(4714, 720, 905), old(805))
+        self.assertEqual(table.serve(4711, 720, 905), fresh(1, 705))
+        self.assertEqual(table.serve(4712, 720, 905), fresh(0, 705))
+        self.assertEqual(table.serve(4713, 720, 905), old(-85))
+        self.assertEqual(table.serve(4714, 720, 905), old(-85))
         self.assertEqual(table.set(4713, 2, 890, 906), Stored(0, 0))
         self.assertEqual(table.set(4714, 1, 890, 906), Stored(0, 0))
-        self.assertEqual(table.serve(4713, 720, 910), fresh(2, 20))
+        self.assertEqual(table.serve(4713, 720, 910), fresh(2, 700))
         self.assertEqual(lane(table.serve(4711, 720, 910)), MILKING)
         self.assertEqual(lane(table.serve(4712, 720, 910)), HOLDING)
         self.assertEqual(lane(table.serve(4713, 720, 910)), GRAZING)
-        self.assertEqual(table.serve(4714, 720, 910), fresh(1, 20))
+        self.assertEqual(table.serve(4714, 720, 910), fresh(1, 700))
         self.assertEqual(table.read(4711, 720, 99), Reading(AHEAD))
         self.assertEqual(table.set(4715, 1, 100, 100), Stored(1, 0))
         self.assertEqual(table.read(4715, 720, 99), Reading(AHEAD))
@@ -137,7 +165,7 @@ class Story(unittest.TestCase):
     def test_a_late_list(self):
         table = self.holding()
         self.unchanged(11, table, 7, 99, 300)
-        self.assertEqual(table.read(7, 720, 300), fresh(5, 200))
+        self.assertEqual(table.read(7, 720, 300), fresh(5, 520))
         # Not held, and no place: that is another refusal.
         self.unchanged(5, table, 8, 99, 300)
         # The same minute is stored, and so is a later one, by the cut form too.
@@ -169,10 +197,10 @@ class Story(unittest.TestCase):
         self.unchanged(11, table, 7, 90, 300)
         table.delete(7)
         self.assertEqual(table.set(7, 1, 90, 300), Stored(1, 0))
-        self.assertEqual(table.read(7, 720, 300), fresh(1, 210))
+        self.assertEqual(table.read(7, 720, 300), fresh(1, 510))
         table.evict(0)
         self.assertEqual(table.set(7, 1, 80, 300), Stored(1, 0))
-        self.assertEqual(table.read(7, 720, 300), fresh(1, 220))
+        self.assertEqual(table.read(7, 720, 300), fresh(1, 500))
 
     def test_a_clock_that_ran_ahead(self):
         table = self.holding()
@@ -180,16 +208,18 @@ class Story(unittest.TestCase):
         # Put right, it makes every true list late, until she is deleted.
         self.assertEqual(table.read(7, 720, 900), Reading(AHEAD))
         self.unchanged(11, table, 7, 900, 900)
-        self.assertEqual(table.read(7, 720, 5000), fresh(1, 0))
+        self.assertEqual(table.read(7, 720, 5000), fresh(1, 720))
         table.delete(7)
         self.assertEqual(table.set(7, 1, 900, 900), Stored(1, 0))
-        self.assertEqual(table.read(7, 720, 900), fresh(1, 0))
+        self.assertEqual(table.read(7, 720, 900), fresh(1, 720))
 
     def test_a_caller_of_before(self):
         table = self.holding()
         for call, numbers in ((table.set, (7, 1, 300)), (table.set_standing, (7, 1)),
                               (table.set_cut, (7, 1, 300, 5)), (table.set_standing_cut, (7, 1, 5))):
             self.assertRaises(TypeError, call, *numbers)
+        for said in (table.read(7, 720, 300), table.read(7, 720, 900), table.read(8, 720, 300)):
+            self.assertRaises(AttributeError, lambda: said.age)
 
     def test_records(self):
         table = made(8, 1, 4)
@@ -204,7 +234,7 @@ class Story(unittest.TestCase):
             self.assertEqual(table.set(animal, 1, 100, 100), Stored(1, 0))
         self.assertEqual(table.set(5, 1, 100, 100), Stored(5, 1))
         self.assertEqual((table.slots[12], table.counters[0]), (131074, 20))
-        self.assertEqual(table.read(1012, 720, 100), fresh(1, 0))
+        self.assertEqual(table.read(1012, 720, 100), fresh(1, 720))
         self.refused(5, table.set, 6, 1, 100, 100)
 
         table = made(8, 1, 36)
@@ -227,7 +257,7 @@ class Story(unittest.TestCase):
         table.set(1, 1, 100, 100)
         self.assertEqual(table.evict_cut(1, 1), Evicted(1, 6, 1))
         self.assertEqual(table.items[:4], [1, 1, 100, 0])
-        self.assertEqual(table.serve(1, 720, 100), fresh(1, 0))
+        self.assertEqual(table.serve(1, 720, 100), fresh(1, 720))
         self.assertEqual(table.items[3], 1)
         self.assertEqual(table.evict(1), Evicted(1, 6, 1))
         self.assertEqual(table.read(1, 720, 100), Reading(ABSENT))
@@ -244,7 +274,7 @@ class Story(unittest.TestCase):
                     self.refused(8, table.delete, 7)
                     self.refused(8, table.find, 7)
                 else:
-                    self.assertEqual(table.read(7, 720, 100), Reading(ABSENT) if k == 0 else fresh(5, 10))
+                    self.assertEqual(table.read(7, 720, 100), Reading(ABSENT) if k == 0 else fresh(5, 710))
                 # Only fresh helps.
                 table.fresh()
                 self.assertEqual(table.set_standing_cut(7, 5, 90, 100, 7), Stored(1, 0))
@@ -253,7 +283,7 @@ class Story(unittest.TestCase):
                 if 0 < k < 7:
                     self.refused(8, table.read, 7, 720, 100)
                 else:
-                    self.assertEqual(table.read(7, 720, 100), fresh(5, 0) if k == 0 else Reading(ABSENT))
+                    self.assertEqual(table.read(7, 720, 100), fresh(5, 720) if k == 0 else Reading(ABSENT))
 
     def test_a_damaged_word(self):
         table = made(16, 4, 20)
@@ -262,7 +292,7 @@ class Story(unittest.TestCase):
             table.slots[1] = word
             self.refused(4, table.read, 1, 720, 110)
         table.slots[1] = 65540
-        self.assertEqual(table.read(1, 720, 110), fresh(1, 10))
+        self.assertEqual(table.read(1, 720, 110), fresh(1, 710))
 
     def said(self, call, *numbers):
         """The answer, or the number of the refusal."""
@@ -311,12 +341,12 @@ class Story(unittest.TestCase):
         # She is in the last place, behind a vacant one.
         table = lent(8, 1, 12)
         table.items[:] = 8, 1, 50, 1, 0, 0, 0, 0, 7, 5, 100, 0
-        self.assertEqual(self.plainly(table, 7, 720, 820), fresh(5, 720))
-        self.assertEqual(self.plainly(table, 7, 720, 821), old(721))
+        self.assertEqual(self.plainly(table, 7, 720, 820), fresh(5, 0))
+        self.assertEqual(self.plainly(table, 7, 720, 821), old(-1))
         self.assertEqual(self.plainly(table, 7, 720, 99), Reading(AHEAD))
-        self.assertEqual(self.plainly(table, 7, LARGEST_LIMIT, 10180), fresh(5, 10080))
-        self.assertEqual(self.plainly(table, 7, 0, 2 ** 64 - 2), old(2 ** 64 - 102))
-        self.assertEqual(self.plainly(table, 8, 720, 770), fresh(1, 720))
+        self.assertEqual(self.plainly(table, 7, LARGEST_LIMIT, 10180), fresh(5, 0))
+        self.assertEqual(self.plainly(table, 7, 0, 2 ** 64 - 2), old(LEAST_LEFT))
+        self.assertEqual(self.plainly(table, 8, 720, 770), fresh(1, 0))
         self.assertEqual(self.plainly(table, 9, 720, 820), Reading(ABSENT))
         self.assertEqual(self.plainly(table, 7 + 2 ** 32, 720, 820), Reading(ABSENT))
         # It marks nobody.
@@ -325,15 +355,15 @@ class Story(unittest.TestCase):
         # A permission word above 32 bits is told modulo 2^32.
         for word, permission in ((2 ** 32 + 5, 5), (2 ** 32, 0), (2 ** 64 - 1, 2 ** 32 - 1)):
             table.items[9] = word
-            self.assertEqual(self.plainly(table, 7, 720, 820), fresh(permission, 720))
+            self.assertEqual(self.plainly(table, 7, 720, 820), fresh(permission, 0))
         table.items[10] = STANDING
         self.assertEqual(self.plainly(table, 7, 0, 0), fresh(2 ** 32 - 1, 0))
-        self.assertEqual(self.plainly(table, 7, 720, 2 ** 64 - 2), fresh(2 ** 32 - 1, 0))
+        self.assertEqual(self.plainly(table, 7, 720, 2 ** 64 - 2), fresh(2 ** 32 - 1, 720))
 
         # Twins: the first place decides, whatever the other one is.
         table.items[:] = 8, 1, 50, 1, 7, 6, 100, 1, 7, 5, 110, 1
-        self.assertEqual(self.plainly(table, 7, 720, 820), fresh(6, 720))
-        self.assertEqual(self.plainly(table, 7, 720, 821), old(721))
+        self.assertEqual(self.plainly(table, 7, 720, 820), fresh(6, 0))
+        self.assertEqual(self.plainly(table, 7, 720, 821), old(-1))
         table.items[6] = 900
         self.assertEqual(self.plainly(table, 7, 720, 820), Reading(AHEAD))
 
@@ -344,7 +374,7 @@ class Story(unittest.TestCase):
                 if length >= 4:
                     items[last - 4:last] = 7, 5, 100, 1  # she is in the last place
                 good = length in (4, 8, 16380, 16384)
-                self.assertEqual(self.said(plain_read, items, 7, 720, 820), fresh(5, 720) if good else 1)
+                self.assertEqual(self.said(plain_read, items, 7, 720, 810), fresh(5, 10) if good else 1)
                 # Its turn is before those of the animal and the times, in this order.
                 for number, numbers in ((2, (0, 720, 820)), (2, (0, LARGEST_LIMIT + 1, 820)),
                                         (2, (0, 720, 2 ** 64 - 1)), (3, (7, LARGEST_LIMIT + 1, 820)),
@@ -355,14 +385,14 @@ class Story(unittest.TestCase):
         self.assertEqual(plain_read((ctypes.c_uint64 * 4).from_buffer(items), 7, 720, 820), Reading(ABSENT))
         dump = bytes(items)
         self.assertEqual(plain_read((ctypes.c_uint64 * (len(dump) // 8)).from_buffer_copy(dump), 7, 720, 820),
-                         fresh(5, 720))
+                         fresh(5, 0))
 
         # Slots and counters of wrong lengths are no refusal.
         for s, c in ((0, 0), (12, 1), (8, 0), (16384, 1), (8, 1025)):
             table = lent(s, c, 4)
             table.items[:] = 7, 5, 100, 1
             self.refused(1, table.read, 7, 720, 820)
-            self.assertEqual(self.plainly(table, 7, 720, 820), fresh(5, 720))
+            self.assertEqual(self.plainly(table, 7, 720, 820), fresh(5, 0))
 
         # Numbers out of range, and what is no array of 64-bit words.
         for numbers in ((2 ** 64, 720, 820), (7, -1, 820), (7, 720, 2 ** 64), (7, 720, 1.5)):
@@ -373,7 +403,7 @@ class Story(unittest.TestCase):
 
     def test_plain_read_walks_on(self):
         # Busy: each store of a new entry is seen, and a permission 5 with no stamp yet looks fresh.
-        half = [Reading(ABSENT), fresh(0, 100), fresh(5, 100)] + 3 * [fresh(5, 10)]
+        half = [Reading(ABSENT), fresh(0, 620), fresh(5, 620)] + 3 * [fresh(5, 710)]
         for k in range(1, 7):
             table = made(16, 1, 20)
             table.set_cut(7, 5, 90, 100, k)
@@ -386,12 +416,12 @@ class Story(unittest.TestCase):
         for word, said in ((0xdeadbeef, 4), (0, Reading(ABSENT))):
             table.slots[slot] = word
             self.assertEqual(self.said(table.read, 1, 720, 110), said)
-            self.assertEqual(self.plainly(table, 1, 720, 110), fresh(1, 10))
+            self.assertEqual(self.plainly(table, 1, 720, 110), fresh(1, 710))
 
     def test_lanes(self):
         self.assertEqual([lane(fresh(permission, 0)) for permission in range(5)],
                          [HOLDING, MILKING, GRAZING, MILKING, HOLDING])
-        for held in (Reading(ABSENT), old(1), Reading(AHEAD)):
+        for held in (Reading(ABSENT), old(-1), Reading(AHEAD)):
             self.assertEqual(lane(held), HOLDING)
 
     def test_refusals(self):
