@@ -29,6 +29,7 @@ import ctypes
 import os
 import pathlib
 import threading
+from dataclasses import dataclass
 from typing import NamedTuple, Optional
 
 ABSENT, FRESH, OLD, AHEAD = 'absent', 'fresh', 'old', 'ahead'
@@ -63,8 +64,12 @@ class Refusal(Exception):
         self.number = number
 
 
-class Reading(NamedTuple):
-    """What read, serve and plain read say. Fresh alone opens nothing: see lane()."""
+@dataclass(frozen=True)
+class Reading:
+    """What read, serve and plain read say. Fresh alone opens nothing: see lane().
+
+    It is no tuple: one that a caller of 2.x takes apart would hand it what is left for the age.
+    """
     kind: str                          # absent, fresh, old or ahead
     permission: Optional[int] = None   # where fresh
     left: Optional[int] = None         # minutes of the limit that are left; where fresh (0 or more) or old (below 0)

@@ -220,6 +220,8 @@ class Story(unittest.TestCase):
             self.assertRaises(TypeError, call, *numbers)
         for said in (table.read(7, 720, 300), table.read(7, 720, 900), table.read(8, 720, 300)):
             self.assertRaises(AttributeError, lambda: said.age)
+            self.assertRaises(TypeError, lambda: said[2])
+            self.assertRaises(TypeError, lambda: (lambda kind, permission, age: age)(*said))
 
     def test_records(self):
         table = made(8, 1, 4)
