@@ -65,12 +65,13 @@ class Story(unittest.TestCase):
         self.assertEqual(table.items[:4], [7, 6, STANDING, 1])
 
     def of_stamp(self, stamp, limit, now):
-        """What read, plain read and serve say of a held animal with that stamp."""
+        """What read, plain read and serve say of a held animal with that stamp; serve marks her where she is fresh."""
         table = self.holding()
         table.items[2] = stamp
         said = table.read(7, limit, now)
         self.assertEqual(self.plainly(table, 7, limit, now), said)
         self.assertEqual(table.serve(7, limit, now), said)
+        self.assertEqual(table.items[3] == 1, said.kind == FRESH)
         return said
 
     def test_what_is_left(self):

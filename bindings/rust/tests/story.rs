@@ -69,7 +69,7 @@ fn ages() {
     assert_eq!(table.items[..4], [7, 6, STANDING, 1]);
 }
 
-// What read, plain read and serve say of a held animal with that stamp.
+// What read, plain read and serve say of a held animal with that stamp; serve marks her where she is fresh.
 fn of_stamp(stamp: u64, limit: u64, now: u64) -> Result<Reading, Refusal> {
     let mut memory = lent(slots(8), 4, items(1));
     let mut table = holding(&mut memory);
@@ -77,6 +77,7 @@ fn of_stamp(stamp: u64, limit: u64, now: u64) -> Result<Reading, Refusal> {
     let said = table.read(7, limit, now);
     assert_eq!(plainly(&table, 7, limit, now), said);
     assert_eq!(table.serve(7, limit, now), said);
+    assert_eq!(table.items[3] == 1, matches!(said, Ok(Reading::Fresh { .. })));
     said
 }
 
