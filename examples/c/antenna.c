@@ -76,7 +76,7 @@ static void *antenna(void *counts) {
         over = gate.over;
         unlock();
         lanes[boughladder_lane(r)]++;
-        /* Her stamp is now, less the limit, and what is left of it. */
+        /* Her stamp is now, minus the limit, plus what is left of it. */
         if (r.refusal != 0 ||
             (r.kind == BOUGHLADDER_FRESH && r.permission != given(cow, (minute + (uint64_t)r.left - LIMIT) / DAY)))
             ++*wrong;
