@@ -4,7 +4,7 @@
     python3 samples/check.py [--echo] [FILE]      (no FILE, or -: standard input)
 
 It prints the answers that `./replay` must print, and ends with its status. It
-was written from the order, its change requests (wishes 1 and 2 have landed) and
+was written from the order, its change requests (wishes 1 to 4 have landed) and
 docs/replay-format.md only, not from the Rattle code, so that the two can disagree.
 Every call first works out its answer and the list of its stores without
 touching the table; then the first k stores are made. So the cut form and the
@@ -13,6 +13,7 @@ whole call are one and the same text here.
 import sys
 
 TOP = 2**64 - 1                   # the standing mark; also the largest number
+LEAST_LEFT = -2**62               # who is overdue for longer is told this too
 SLOTS_MAX, COUNTERS_MAX, ITEMS_MAX = 8192, 1024, 4096     # what replay holds
 BUFFER_MAX = 81920
 FILE_MAX = 2 * 2**20
@@ -131,12 +132,13 @@ class Table:
         stamp = self.items[4 * place + 2]
         recent = [('items', 4 * place + 3, 1)] if serve else []
         if stamp == TOP:
-            return f'fresh {permission} 0', recent
+            return f'fresh {permission} {limit}', recent
         if stamp > now:
             return 'ahead', []
-        if now - stamp <= limit:
-            return f'fresh {permission} {now - stamp}', recent
-        return f'old {now - stamp}', []
+        left = limit - (now - stamp)
+        if left >= 0:                        # 0 on the last good minute
+            return f'fresh {permission} {left}', recent
+        return f'old {max(left, LEAST_LEFT)}', []
 
     def plain(self, animal, limit, now):
         """The answer alone, from the item words alone: nothing is hashed or stored."""
@@ -153,8 +155,8 @@ class Table:
                 if age < 0:
                     return 'ahead'
                 if age > limit:
-                    return f'old {age}'
-                return f'fresh {permission % 2**32} {age}'
+                    return f'old -{min(age - limit, 2**62)}'
+                return f'fresh {permission % 2**32} {limit - age}'
         return 'absent'
 
     def set(self, animal, permission, issued, now, standing):
