@@ -4,6 +4,7 @@
 #include <string.h>
 
 #define STANDING UINT64_MAX
+#define OVERDUE_MOST (UINT64_C(1) << 62) /* minutes: who is overdue for longer is told this */
 #define VISITS 682  /* 2 + 8 + 32 + 128 + 512 */
 #define PARENTS 170 /* the visits of levels 0 to 3, whose slots lead on */
 #define INLINE static inline __attribute__((always_inline))
@@ -123,13 +124,20 @@ INLINE BoughladderReading reading(ANCHOR_LENT, uint64_t animal, uint64_t limit, 
     if (stamp == STANDING) {
         r.kind = BOUGHLADDER_FRESH;
         r.permission = (uint32_t)item[1];
+        r.left = (int64_t)limit;
         return r;
     }
     if (stamp > now) { r.kind = BOUGHLADDER_AHEAD; return r; }
-    r.age = now - stamp;
-    if (r.age > limit) { r.kind = BOUGHLADDER_OLD; return r; }
+    uint64_t age = now - stamp;
+    if (age > limit) { /* the sign comes last: a long age is no int64_t */
+        uint64_t overdue = age - limit;
+        r.kind = BOUGHLADDER_OLD;
+        r.left = -(int64_t)(overdue < OVERDUE_MOST ? overdue : OVERDUE_MOST);
+        return r;
+    }
     r.kind = BOUGHLADDER_FRESH;
     r.permission = (uint32_t)item[1];
+    r.left = (int64_t)(limit - age);
     return r;
 }
 
@@ -347,7 +355,7 @@ BoughladderListing anchor_list(ANCHOR_LENT, uint8_t *buffer, size_t buffer_lengt
     return l;
 }
 
-/* The places in order, one a turn. It judges the age in lines of its own, so that a slip in read's is no slip here. */
+/* The places in order, one a turn. It judges what is left in lines of its own, so that a slip in read's is no slip here. */
 BoughladderReading anchor_plain_read(const uint64_t *items, size_t il, uint64_t animal, uint64_t limit, uint64_t now) {
     BoughladderReading r = {0, 0, 0, 0};
     if (il < 4 || il > 16384 || il % 4 != 0) { r.refusal = 1; return r; }
@@ -357,10 +365,11 @@ BoughladderReading anchor_plain_read(const uint64_t *items, size_t il, uint64_t 
     while (i < il && items[i] != animal) i += 4;
     if (i == il) { r.kind = BOUGHLADDER_ABSENT; return r; }
     uint64_t stamp = items[i + 2];
-    if (stamp == STANDING) stamp = now; /* age 0, which no limit is below */
+    if (stamp == STANDING) stamp = now; /* age 0: the whole limit is left */
     if (stamp > now) { r.kind = BOUGHLADDER_AHEAD; return r; }
-    r.age = now - stamp;
-    r.kind = r.age > limit ? BOUGHLADDER_OLD : BOUGHLADDER_FRESH;
+    uint64_t age = now - stamp, most = limit + (UINT64_C(1) << 62); /* an older one is told as if it were so old */
+    r.left = (int64_t)limit - (int64_t)(age < most ? age : most);
+    r.kind = r.left < 0 ? BOUGHLADDER_OLD : BOUGHLADDER_FRESH;
     if (r.kind == BOUGHLADDER_FRESH) r.permission = (uint32_t)items[i + 1];
     return r;
 }

@@ -15,7 +15,7 @@
 #include <string.h>
 
 #define LOAD 90
-#define AGE 100 /* of everybody: the program knows it before the answer, the processor does not */
+#define LEFT 620 /* to everybody: the program knows it before the answer, the processor does not */
 
 enum { OURS, ANCHOR, SECOND, TABLES };
 static Table tables[TABLES];
@@ -35,13 +35,13 @@ typedef double Work(Table *t);
         double start = now_ns();                                                                   \
         for (size_t i = 0; i < READS; i++) {                                                       \
             BoughladderReading r = who##_read(who##_TABLE, asked[i] + wait, LIMIT, NOW);           \
-            t->sum += r.kind + r.permission + r.age + r.refusal;                                   \
+            t->sum += r.kind + r.permission + r.left + r.refusal;                                  \
             wait = next;                                                                           \
         }                                                                                          \
         return (now_ns() - start) / READS;                                                         \
     }
 #define WORKS(who)                                                                                 \
-    WORK(who, waiting, r.age - AGE)                                                                \
+    WORK(who, waiting, r.left - LEFT)                                                              \
     WORK(who, row, 0)
 WORKS(boughladder)
 WORKS(anchor)
@@ -89,7 +89,7 @@ static void fill(uint64_t (*number)(void)) {
     memset(t, 0, sizeof *t);
     for (herd = 0; herd < (size_t)M * LOAD / 100;) {
         uint64_t animal = number();
-        if (boughladder_set(TABLE, animal, (uint32_t)any(), NOW - AGE, NOW, 0).refusal == 0) held[herd++] = animal;
+        if (boughladder_set(TABLE, animal, (uint32_t)any(), NOW - (LIMIT - LEFT), NOW, 0).refusal == 0) held[herd++] = animal;
     }
     for (int k = 1; k < TABLES; k++) tables[k] = *t;
 }

@@ -1,6 +1,6 @@
 /*
  * peers.cc: nanoseconds a read, ours and those of known hash maps, with a herd and questions as speed.c has them.
- * A peer maps an animal to its permission and stamp, and its read is the lookup and then the judgement of the age by
+ * A peer maps an animal to its permission and stamp, and its read is the lookup and then the judgement of what is left by
  * the order's rules. It makes none of our refusals. Each peer is told beforehand that M animals may come and hashes by
  * its default, which does for scattered numbers: libcuckoo, tsl and std by std::hash, the number itself; absl by its own.
  * libcuckoo's find locks two buckets and copies the value: that is its find. A peer whose header is missing is left out.
@@ -20,6 +20,7 @@
 #define HAVE_ABSL
 #endif
 
+#include <algorithm>
 #include <cstdio>
 #include <cstdlib>
 #include <memory>
@@ -35,13 +36,13 @@ struct Item {
     uint64_t stamp;
 };
 
-/* Fresh, old or ahead, as the order says it of a held animal. */
+/* Fresh, old or ahead, as the order says it of a held animal, and what is left: no less than -2^62. */
 static BoughladderReading judge(const Item &item, uint64_t limit, uint64_t now) {
-    if (item.stamp == UINT64_MAX) return {0, BOUGHLADDER_FRESH, item.permission, 0};
+    if (item.stamp == UINT64_MAX) return {0, BOUGHLADDER_FRESH, item.permission, (int64_t)limit};
     if (item.stamp > now) return {0, BOUGHLADDER_AHEAD, 0, 0};
     uint64_t age = now - item.stamp;
-    if (age > limit) return {0, BOUGHLADDER_OLD, 0, age};
-    return {0, BOUGHLADDER_FRESH, item.permission, age};
+    if (age > limit) return {0, BOUGHLADDER_OLD, 0, -(int64_t)std::min(age - limit, UINT64_C(1) << 62)};
+    return {0, BOUGHLADDER_FRESH, item.permission, (int64_t)(limit - age)};
 }
 
 template <class Map>
@@ -104,7 +105,7 @@ template <class Map> struct Of : Column {
         double start = now_ns();
         for (size_t i = 0; i < READS; i++) {
             BoughladderReading r = read(map, asked[i], LIMIT, NOW);
-            sum += r.kind + r.permission + r.age + r.refusal;
+            sum += r.kind + r.permission + r.left + r.refusal;
         }
         return (now_ns() - start) / READS;
     }

@@ -52,6 +52,12 @@ static void tell_next(uint64_t number) {
     tell_number(number);
 }
 
+static void tell_left(int64_t left) {
+    *out++ = ' ';
+    if (left < 0) *out++ = '-';
+    tell_number(left < 0 ? -(uint64_t)left : (uint64_t)left);
+}
+
 static int tell_refusal(uint32_t refusal) {
     if (refusal == 0) return 0;
     TELL("refused");
@@ -129,10 +135,10 @@ static int ask(const Word *words, size_t count, int how) {
     if (r.kind == BOUGHLADDER_FRESH) {
         TELL("fresh");
         tell_next(r.permission);
-        tell_next(r.age);
+        tell_left(r.left);
     } else if (r.kind == BOUGHLADDER_OLD) {
         TELL("old");
-        tell_next(r.age);
+        tell_left(r.left);
     } else if (r.kind == BOUGHLADDER_AHEAD) {
         TELL("ahead");
     } else {

@@ -2,6 +2,7 @@
 #include "second.h"
 
 #define STANDING UINT64_MAX
+#define FAR (UINT64_C(1) << 62) /* minutes beyond the limit; beyond them the answer stays the same */
 #define VISITS 682  /* 2 + 8 + 32 + 128 + 512 */
 #define PARENTS 170 /* the visits of levels 0 to 3, whose slots lead on */
 #define ABSENT (-1)
@@ -85,12 +86,17 @@ static inline BoughladderReading reading(const BoughladderTable *t, uint64_t ani
     int64_t place = hit_of(t, home, animal, &slot);
     if (place == DAMAGED) { r.refusal = 4; return r; }
     if (place == ABSENT) { r.kind = BOUGHLADDER_ABSENT; return r; }
-    uint64_t stamp = t->items[4 * place + 2];
+    uint64_t stamp = t->items[4 * place + 2], age = 0;
     *found = place;
     if (stamp != STANDING) {
         if (stamp > now) { r.kind = BOUGHLADDER_AHEAD; return r; }
-        r.age = now - stamp;
-        if (r.age > limit) { r.kind = BOUGHLADDER_OLD; return r; }
+        age = now - stamp;
+    }
+    r.left = (int64_t)(limit - age); /* modulo 2^64, so it is right from the limit down to -2^63 */
+    if (age > limit) {
+        if (age > limit + FAR) r.left = -(int64_t)FAR;
+        r.kind = BOUGHLADDER_OLD;
+        return r;
     }
     r.kind = BOUGHLADDER_FRESH;
     r.permission = (uint32_t)t->items[4 * place + 1];
@@ -221,9 +227,14 @@ BoughladderReading second_plain_read(const BoughladderTable *t, uint64_t animal,
     if (item == NULL) { r.kind = BOUGHLADDER_ABSENT; return r; }
     uint64_t stamp = item[2];
     if (stamp != STANDING && stamp > now) { r.kind = BOUGHLADDER_AHEAD; return r; }
-    if (stamp != STANDING) r.age = now - stamp;
-    if (r.age > limit) { r.kind = BOUGHLADDER_OLD; return r; }
+    uint64_t age = stamp != STANDING ? now - stamp : 0;
+    if (age > limit) {
+        r.kind = BOUGHLADDER_OLD;
+        r.left = age - limit < FAR ? (int64_t)limit - (int64_t)age : -(INT64_C(1) << 62);
+        return r;
+    }
     r.kind = BOUGHLADDER_FRESH;
     r.permission = (uint32_t)item[1];
+    r.left = (int64_t)limit - (int64_t)age;
     return r;
 }

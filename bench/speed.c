@@ -40,7 +40,7 @@ typedef double Work(Table *t, size_t from);
         double start = now_ns();                                                                            \
         for (size_t i = 0; i < count; i++) {                                                                \
             BoughladderReading r = who##_##call(lent, asked[i], LIMIT, NOW);                                \
-            t->sum += r.kind + r.permission + r.age + r.refusal;                                            \
+            t->sum += r.kind + r.permission + r.left + r.refusal;                                           \
         }                                                                                                   \
         return (now_ns() - start) / count;                                                                  \
     }
