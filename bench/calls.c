@@ -13,6 +13,7 @@
 
 #define HERD 960
 #define LONGEST 70000 /* characters of the longest tail of a line: more than 16 bits count */
+#define FAR (UINT64_C(1) << 62) /* minutes overdue; beyond them the answer stays the same */
 
 static uint64_t state;
 
@@ -67,10 +68,10 @@ static size_t used;
 static const char *const edges[] = {
     "18446744073709551614", "18446744073709551615", "18446744073709551616", "18446744073709551625",
     "18446744073709551610", "20000000000000000000", "99999999999999999999", "184467440737095516150",
-    "340282366920938463463374607431768211456", "9223372036854775807", "9223372036854775808", "4294967294", "4294967295",
-    "4294967296", "0", "1", "00", "65536", "10080", "10081", "81919", "81920", "81921", "8192", "8196", "16384", "1024",
-    "1025", "4096", "4100", "-0", "-1", "+1", "1.", "1,024", "0x10", "1e3", "1_0", "'1'", "standing", "set", "\v1", "1\f",
-    "\xc2\xa0", "\r", "1\r", "\\", "/", ":", "9:", "\xef\xbb\xbf", "standig", "evict", "slots",
+    "340282366920938463463374607431768211456", "9223372036854775807", "9223372036854775808", "4611686018427387904",
+    "-4611686018427387904", "4294967294", "4294967295", "4294967296", "0", "1", "00", "65536", "10080", "10081", "81919",
+    "81920", "81921", "8192", "8196", "16384", "1024", "1025", "4096", "4100", "-0", "-1", "+1", "1.", "1,024", "0x10",
+    "1e3", "1_0", "'1'", "standing", "set", "\v1", "1\f", "\xc2\xa0", "\r", "1\r", "\\", "/", ":", "9:", "\xef\xbb\xbf", "standig", "evict", "slots",
     "99999999999999999999x", "x99999999999999999999", "plain",
 };
 
@@ -157,15 +158,17 @@ static void poke(void) {
     }
 }
 
-/* Mostly issued before now. Of the same animal as the last one, it is often issued about the same minute. */
+/* Mostly issued before now, and some long before. Of the same animal as the last one, it is often issued about the same
+   minute. */
 static void a_set(void) {
     uint64_t animal = an_animal(), now = one_in(60) ? UINT64_MAX - below(2) : a_minute();
     uint64_t issued = one_in(3) ? now : one_in(12) ? now + below(3) : one_in(12) ? any() : now - below(500);
+    if (one_in(6)) issued = below(3);
     if (animal == last && !one_in(4)) {
         issued = last_issued - 1 + below(3);
         if (issued > now && !one_in(8)) now = issued;
     }
-    last = animal, last_issued = issued;
+    if (issued <= now) last = animal, last_issued = issued;
     word("set");
     number(animal);
     number(one_in(20) ? UINT32_MAX - 2 + below(5) : below(5));
@@ -183,13 +186,23 @@ static void a_write(void) {
     }
 }
 
+/* A now at or beside a turn of the answer about the last set: issued now, the last good minute, as long overdue as is told,
+   and where a difference of 64 bits turns over. */
+static uint64_t a_turn(uint64_t limit) {
+    static const uint64_t far[] = {0, 0, FAR, 2 * FAR};
+    if (one_in(last_issued < 3 ? 3 : 20)) return UINT64_MAX - 1 - below(2);
+    return last_issued + (one_in(3) ? 0 : limit) + far[below(4)] - 1 + below(3);
+}
+
 /* Mostly well-formed: the slips come from word, number and a_line. */
 static void an_ask(void) {
     static const char *const asks[] = {"read", "serve", "plain"};
+    uint64_t limit = one_in(2) ? 720 : one_in(3) ? below(2) : one_in(2) ? below(1000) : 10079 + below(3);
+    int turn = one_in(2);
     word(asks[below(3)]);
-    number(one_in(40) ? 0 : an_animal());
-    number(one_in(2) ? 720 : one_in(2) ? below(1000) : 10079 + below(3));
-    number(one_in(60) ? UINT64_MAX - below(2) : a_minute());
+    number(one_in(40) ? 0 : turn ? last : an_animal());
+    number(limit);
+    number(turn ? a_turn(limit) : one_in(60) ? UINT64_MAX - below(2) : a_minute());
 }
 
 static void a_call(void) {

@@ -12,6 +12,8 @@
  *     garbage  all three runs hold random words from the start
  * The numbers of a herd are scattered, or of one length in bytes, or of every length; those of a length have edges and bytes
  * of 0 among them. For a hash may take short numbers, or bytes of 0, another way.
+ * Limits and minutes are often such that the answer turns there: stamped now, the last good minute, as long overdue as is
+ * told, and where a difference of 64 bits turns over. The turns that were met are counted.
  *
  * Behind each call come plain reads of our memory, before its words are compared, so that a word that they write shows:
  *     clean    where finished calls from fresh have made the table, in an episode of any kind: of the call's animal, of 0,
@@ -32,6 +34,7 @@
 #define BUFFER (20 * 4096 + 64)
 #define POOL 9000
 #define LARGE_SHARE 8
+#define FAR (UINT64_C(1) << 62) /* minutes overdue; beyond them the answer stays the same */
 
 enum { OURS, ANCHOR, SECOND, TABLES };
 enum { CLEAN, CUT, POKED, GARBAGE, KINDS };
@@ -51,9 +54,15 @@ enum { ALIKE, BUSY, DAMAGED, UNSEEN, ELSEWHERE, BESIDES };
 static const char *const beside_names[BESIDES] = {"the same", "refused 8", "refused 4", "absent, and plain finds her",
                                                   "another permission or stamp"};
 
+/* Where a question meets a stamp: the minutes left, then other turns. The first ones stand in the order of `overdue`. */
+enum { WHOLE = 7, LIMIT_0, STANDS, OLDEST, TURNS };
+static const uint64_t overdue[WHOLE] = {UINT64_MAX, 0, 1, FAR - 1, FAR, FAR + 1, 2 * FAR}; /* modulo 2^64 */
+static const char *const turn_names[TURNS] = {"1", "0", "-1", "-2^62 + 1", "-2^62", "a minute less", "2^63 overdue",
+                                              "the whole limit", "limit 0", "standing", "age 2^64 - 2"};
+
 /* The plain reads behind the calls; on memory that is not clean, what the places that were found are like, too. */
 typedef struct {
-    uint64_t asked, by_answer[4], by_refusal[4], shorter, last, standing, wide, twins;
+    uint64_t asked, by_answer[4], by_refusal[4], by_turn[TURNS], shorter, last, standing, wide, twins;
 } Plains;
 
 /* One table: its block of memory, and where the runs lie in it. */
@@ -66,7 +75,8 @@ typedef struct {
 
 /* A reply of any call. */
 typedef struct {
-    uint64_t refusal, kind, permission, age, place, visits, moves, victim, looked, hand, count;
+    uint64_t refusal, kind, permission, place, visits, moves, victim, looked, hand, count;
+    int64_t left;
 } Reply;
 
 /* The arguments of any call. */
@@ -83,7 +93,7 @@ static size_t n, v, m, pool_size, used; /* used: 64-bit words of the block in us
 static uint64_t state, seed = 1, percent = 100;
 static uint64_t calls, words, by_call[CALLS], by_refusal[12], by_moves[5], by_load[11], by_kind[KINDS], by_answer[4];
 static uint64_t by_meeting[MEETINGS], most_visits, large_calls, stopped_cuts, issued_later, asked_after, bytes;
-static uint64_t by_beside[BESIDES], by_bytes[CALLS][9][2]; /* by the bytes of the number: all, those held or stored */
+static uint64_t by_turn[TURNS], by_beside[BESIDES], by_bytes[CALLS][9][2]; /* by the bytes of the number: all, those held or stored */
 static int clean; /* whether finished calls from fresh have made the table, all with the lengths that fresh got */
 static Plains plains[2]; /* by clean */
 
@@ -164,7 +174,7 @@ static uint64_t an_item_word(size_t i) {
     switch (i % 4) {
     case 0: return one_in(4) ? 0 : pool[below(pool_size)];
     case 1: return one_in(3) ? any() : below(UINT64_C(1) << 32);
-    case 2: return one_in(8) ? UINT64_MAX - below(3) : one_in(8) ? any() : 20000 + below(14000);
+    case 2: return one_in(8) ? UINT64_MAX - below(3) : one_in(8) ? any() : one_in(8) ? below(3) : 20000 + below(14000);
     default: return one_in(3) ? any() : below(2);
     }
 }
@@ -223,7 +233,7 @@ static void poke(void) {
 static Reply of_reading(BoughladderReading x) {
     Reply r;
     memset(&r, 0, sizeof r);
-    r.refusal = x.refusal; r.kind = x.kind; r.permission = x.permission; r.age = x.age;
+    r.refusal = x.refusal; r.kind = x.kind; r.permission = x.permission; r.left = x.left;
     return r;
 }
 
@@ -270,9 +280,9 @@ static Reply make(const Call *c, int who) {
 }
 
 static void tell(const char *who, const Reply *r) {
-    printf("  %-6s refusal %" PRIu64 " kind %" PRIu64 " permission %" PRIu64 " age %" PRIu64 " place %" PRIu64 " visits %" PRIu64
+    printf("  %-6s refusal %" PRIu64 " kind %" PRIu64 " permission %" PRIu64 " left %" PRId64 " place %" PRIu64 " visits %" PRIu64
            " moves %" PRIu64 " victim %" PRIu64 " looked %" PRIu64 " hand %" PRIu64 " count %" PRIu64 "\n",
-           who, r->refusal, r->kind, r->permission, r->age, r->place, r->visits, r->moves, r->victim, r->looked, r->hand,
+           who, r->refusal, r->kind, r->permission, r->left, r->place, r->visits, r->moves, r->victim, r->looked, r->hand,
            r->count);
 }
 
@@ -321,9 +331,21 @@ static void bend_lengths(Call *c, int kind) {
     }
 }
 
-/* A minute of issue: mostly before now, often now, and now and then after it. */
+static uint64_t a_limit(void) {
+    return one_in(10) ? 10079 + below(3) : one_in(10) ? below(2) : one_in(35) ? any() : below(10081);
+}
+
+/* A now at or beside a turn of the answer about such a stamp; modulo 2^64, so that now and then it is ahead. */
+static uint64_t a_turn(uint64_t stamp, uint64_t limit) {
+    static const uint64_t far[] = {0, 0, FAR, 2 * FAR};
+    if (one_in(8)) return UINT64_MAX - below(3); /* of a small stamp as old as can be */
+    return stamp + (one_in(3) ? 0 : limit) + far[below(4)] - 1 + below(3);
+}
+
+/* A minute of issue: mostly before now, often now, and now and then after it or long ago. */
 static uint64_t an_issue(uint64_t now) {
     if (one_in(25)) return one_in(2) ? now + 1 + below(3) : one_in(2) ? any() : UINT64_MAX - below(3);
+    if (one_in(25)) return below(3);
     return one_in(3) ? now : now - below(now < 5000 ? now + 1 : 5000);
 }
 
@@ -344,19 +366,15 @@ static Call a_call(int kind, int growing, size_t hand, const Call *last) {
     c.hand = hand;
     c.animal = an_animal();
     c.permission = (uint32_t)any();
-    c.limit = one_in(40) ? 10079 + below(3) : one_in(40) ? any() : below(10081);
+    c.limit = a_limit();
     c.now = one_in(100) ? UINT64_MAX - below(3) : one_in(100) ? below(3) : 20000 + below(14000);
     if (one_in(200)) c.now += any() << 32; /* a small minute, if somebody keeps 32 bits of it */
     c.issued = an_issue(c.now);
     c.standing = one_in(10) ? (uint32_t)any() : 0;
-    if (one_in(4)) { /* an animal that has a place, and often an age at the edge of the limit, or an issue at her stamp */
+    if (one_in(4)) { /* an animal that has a place, and often a minute at which the answer turns, or an issue at her stamp */
         const uint64_t *item = ours->items + 4 * below(m);
         if (item[0] != 0) c.animal = item[0];
-        if (item[2] < UINT64_MAX - 10090 && one_in(2)) {
-            c.limit = below(10081);
-            c.now = item[2] + c.limit + below(3);
-            c.now -= c.now != 0;
-        }
+        if (one_in(2)) c.now = a_turn(item[2], c.limit);
         if (item[2] != UINT64_MAX && !one_in(3)) c.issued = item[2] - 1 + below(3);
         if (c.issued > c.now && !one_in(10)) c.now = c.issued + below(2);
     } else if (one_in(8)) { /* the same animal again: a read after a refusal, a list that comes twice */
@@ -404,16 +422,11 @@ static int stays_clean(const Call *c, const Reply *told) {
     return clean && whole && c->call != SETCUT && c->call != DELETECUT && c->call != EVICTCUT;
 }
 
-/* A limit and a minute for a stamp: good ones, bad ones, and those about her first and her last fresh minute. */
+/* A limit and a minute for a stamp: good ones, bad ones, and those at which the answer turns. */
 static void a_time(Call *q, uint64_t stamp) {
-    q->limit = one_in(8) ? 10079 + below(3) : one_in(30) ? any() : below(10081);
+    q->limit = a_limit();
     if (one_in(60)) q->limit += any() << 32; /* a good limit, if somebody keeps 32 bits of it */
-    switch (below(8)) {
-    case 0: q->now = stamp - 1 + below(3); break;
-    case 1: case 2: q->now = stamp + q->limit - 1 + below(3); break;
-    case 3: q->now = one_in(2) ? any() : UINT64_MAX - below(3); break;
-    default: q->now = 20000 + below(14000);
-    }
+    q->now = one_in(2) ? a_turn(stamp, q->limit) : one_in(8) ? any() : 20000 + below(14000);
 }
 
 /* The item words of a live place, or place 0. The places fill from the lowest on: below the number of live ones it is near. */
@@ -424,7 +437,7 @@ static const uint64_t *a_live_place(size_t live) {
 }
 
 static int alike(BoughladderReading a, BoughladderReading b) {
-    return a.refusal == b.refusal && a.kind == b.kind && a.permission == b.permission && a.age == b.age;
+    return a.refusal == b.refusal && a.kind == b.kind && a.permission == b.permission && a.left == b.left;
 }
 
 static void plain_differs(const Call *q, BoughladderReading plain, const char *who, BoughladderReading other, int kind) {
@@ -441,6 +454,17 @@ static void plain_differs(const Call *q, BoughladderReading plain, const char *w
     exit(1);
 }
 
+/* A question that was not refused and met such a stamp. */
+static void count_turn(uint64_t *turns, const Call *q, uint64_t stamp) {
+    uint64_t age = q->now - stamp;
+    turns[STANDS] += stamp == UINT64_MAX;
+    if (stamp > q->now) return;
+    for (int i = 0; i < WHOLE; i++) turns[i] += age - q->limit == overdue[i];
+    turns[WHOLE] += age == 0;
+    turns[LIMIT_0] += age == 0 && q->limit == 0;
+    turns[OLDEST] += age == UINT64_MAX - 1;
+}
+
 /* Twins: her number stands at another place behind the first. */
 static void count_plain(const Call *q, BoughladderReading plain) {
     Plains *p = &plains[clean];
@@ -449,9 +473,11 @@ static void count_plain(const Call *q, BoughladderReading plain) {
     if (plain.refusal != 0) return;
     p->by_answer[plain.kind]++;
     p->shorter += q->il < 4 * m;
-    if (clean || plain.kind == BOUGHLADDER_ABSENT) return;
+    if (plain.kind == BOUGHLADDER_ABSENT) return;
     const uint64_t *item = ours->items, *end = item + q->il;
     while (item[0] != q->animal) item += 4;
+    count_turn(p->by_turn, q, item[2]);
+    if (clean) return;
     p->last += item + 4 == end;
     p->standing += item[2] == UINT64_MAX;
     p->wide += item[1] > UINT32_MAX;
@@ -574,6 +600,8 @@ static void episode(int large, int kind, uint64_t length) {
         if ((c.call == READ || c.call == SERVE) && told.refusal == 0) {
             by_answer[told.kind]++;
             asked_after += late && c.animal == last.animal;
+            BoughladderFinding f = anchor_find(ours->slots, c.sl, ours->counters, c.cl, ours->items, c.il, c.animal);
+            if (f.kind == BOUGHLADDER_AT_PLACE) count_turn(by_turn, &c, ours->items[4 * f.place + 2]);
         }
         late = told.refusal == 11;
         if (setting && (told.refusal == 0 || late)) by_meeting[met]++;
@@ -585,6 +613,10 @@ static void episode(int large, int kind, uint64_t length) {
         if ((c.call == SETCUT || c.call == DELETECUT || c.call == EVICTCUT) && told.refusal == 0) stopped_cuts++;
         if ((c.call == EVICT || c.call == EVICTCUT) && told.refusal == 0) hand = told.hand;
     }
+}
+
+static void tell_turns(const uint64_t *turns) {
+    for (int i = 0; i < TURNS; i++) printf("  %s: %" PRIu64, turn_names[i], turns[i]);
 }
 
 int main(int argc, char **argv) {
@@ -608,6 +640,8 @@ int main(int argc, char **argv) {
     for (int i = 0; i < MEETINGS; i++) printf("  %s %" PRIu64, meeting_names[i], by_meeting[i]);
     printf("\nsets refused 3 for an issue after now: %" PRIu64 "\nreads and serves of the animal right after 11: %" PRIu64, issued_later, asked_after);
     printf("\nread and serve:  absent %" PRIu64 "  fresh %" PRIu64 "  old %" PRIu64 "  ahead %" PRIu64, by_answer[0], by_answer[1], by_answer[2], by_answer[3]);
+    printf("\n  left:");
+    tell_turns(by_turn);
     printf("\nby the bytes of the animal's number that are in use (in brackets: she was held, or stored):");
     static const int shown[] = {READ, SERVE, SET, DELETE};
     for (int i = 0; i < 4; i++) {
@@ -622,6 +656,8 @@ int main(int argc, char **argv) {
                i ? "on clean tables, each as read," : "on other memory, each as both C walks,", p->asked, p->by_answer[0],
                p->by_answer[1], p->by_answer[2], p->by_answer[3]);
         for (int k = 1; k < 4; k++) printf("  %d: %" PRIu64, k, p->by_refusal[k]);
+        printf("\n    left:");
+        tell_turns(p->by_turn);
     }
     printf("\n    at the last place %" PRIu64 "  standing %" PRIu64 "  permission word above 32 bits %" PRIu64 "  twins behind her %" PRIu64
            "  shorter items %" PRIu64, plains[0].last, plains[0].standing, plains[0].wide, plains[0].twins, plains[0].shorter);
