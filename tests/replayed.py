@@ -7,7 +7,8 @@
 
 The status must be 2 if some line is not understood, else 0. A file on which they differ is kept in target/.
 And where plain and read ask the same, one right behind the other, their answers must be the same on a table that
-finished calls have made: that is told by the replay program's answers alone.
+finished calls have made; and what is left is 0 or more where fresh, below 0 where old, and in its range. Both are told
+by the replay program's answers alone.
 """
 import pathlib
 import random
@@ -20,6 +21,8 @@ MARK = b'\xef\xbb\xbf'
 WORDS = b'fresh set read serve plain delete evict hand cut list poke dump slots counters items standing'.split()
 WHOLE = 1024 + 7  # the most stores that a call can have to make: an evict that clears every place of the largest table
 PAIRS = {True: [0, 0], False: [0, 0]}  # plain beside read, on tables of finished calls and on others: all, the unlike
+FAR = 2**62  # minutes overdue; beyond them the answer stays the same
+LEFT = dict.fromkeys(['the whole limit', 'limit 0', '1', '0', '-1', '-2^62 + 1', '-2^62'], 0)  # answers that tell so
 
 
 def run(command, data):
@@ -45,6 +48,21 @@ def unlike(echoed):
     return None
 
 
+def badly_left(echoed):
+    """Counts what is left; the first answer that tells it badly, if there is one."""
+    for limit, answer in re.findall(rb'^\d+: (?:read|serve|plain) \d+ (\d+) \d+ -> (.*)$', echoed, re.M):
+        told = re.fullmatch(rb'fresh \d+ (0|[1-9]\d*)|old (-[1-9]\d*)|ahead|absent|refused \d+', answer)
+        if told and not told.lastindex:
+            continue
+        left, limit = int(told[told.lastindex]) if told else FAR, int(limit)
+        if not -FAR <= left <= limit:
+            return 'badly told, with limit %d: %r' % (limit, answer)
+        edges = [left == limit, left == limit == 0, *(left == n for n in (1, 0, -1, 1 - FAR, -FAR))]
+        for name, met in zip(LEFT, edges):
+            LEFT[name] += met
+    return None
+
+
 def compare(name, data, answers=None):
     """The number of answer lines; ends the program at a difference."""
     for echo in [], ['--echo']:
@@ -61,7 +79,7 @@ def compare(name, data, answers=None):
         elif ours[2]:
             wrong = 'said on standard error: %r' % ours[2][:200]
         elif echo:
-            wrong = unlike(ours[0])
+            wrong = unlike(ours[0]) or badly_left(ours[0])
         if wrong:
             kept = TOP / 'target/difference.calls'
             kept.write_bytes(data)
@@ -131,7 +149,7 @@ class Day:
             return self.number()
         if animal in self.issues and not self.one_in(3):
             return min(max(0, self.issues[animal] + r.choice([-1, -1, 0, 1])), 2**64 - 1)
-        late = r.choice([0, 0, 0, r.randrange(60), r.randrange(60), r.randrange(3000), -1])
+        late = r.choice([0, 0, 0, r.randrange(60), r.randrange(60), r.randrange(3000), -1, now - r.randrange(3)])
         return min(max(0, now - late), 2**64 - 1)
 
     def set(self):
@@ -159,11 +177,11 @@ class Day:
         animal, limit, now = self.animal(), self.limit(), self.minute()
         if self.issues and not self.one_in(3):
             animal = self.lately()
-            if self.one_in(2):  # about her first or her last fresh minute
-                edge = self.issues[animal] + self.r.choice([0, limit]) + self.r.choice([-1, 0, 1])
-                now = min(max(0, edge), 2**64 - 1)
-            elif self.one_in(12):
-                now = 2**64 - self.r.choice([1, 2])
+            if not self.one_in(3):  # about a turn of the answer: her first or last fresh minute, the least left
+                turn = self.r.choice([0, limit]) + self.r.choice([0, 0, FAR, 2 * FAR]) + self.r.choice([-1, 0, 1])
+                now = min(max(0, self.issues[animal] + turn), 2**64 - 2)
+            elif self.one_in(4):
+                now = 2**64 - self.r.choice([1, 2, 2])
         if self.one_in(3):
             return ['serve', animal, limit, now]
         first, second = self.r.sample(['read', 'plain'], 2)
@@ -273,16 +291,34 @@ def samples():
     return not files
 
 
+def every_turn():
+    """Each call asks at every turn of the answer, and a minute before and after it."""
+    stamps = {1: 0, 2: 100, 3: 2**64 - 2, 4: 50}
+    lines = ['fresh 16 4 16', *('set %d 1 %d %d' % (animal, stamp, stamp) for animal, stamp in stamps.items())]
+    lines[-1] += ' standing'
+    for animal, stamp in stamps.items():
+        for limit in 0, 1, 720, 10080, 10081:
+            turns = {stamp + age + more for age in (0, limit) for more in (0, FAR, 2 * FAR)} | {2**64 - 2}
+            for now in sorted({turn + beside for turn in turns for beside in (-1, 0, 1)}):
+                if now not in range(2**64):
+                    continue
+                lines += ['%s %d %d %d' % (call, animal, limit, now) for call in ('read', 'serve', 'plain')]
+    return '\n'.join(lines).encode()
+
+
 def fresh_lines(seed, files, lines):
     edges = [b'', b'\n', b'\r', b'\r\n', b'#', b'd', b'dump', b'dump\r', b'\x00', MARK, MARK + b'\n', MARK + b'dump',
              MARK + MARK + b'dump', MARK[:1], MARK[:2] + b'dump', b'\n' + MARK + b'dump', b' ' + MARK + b'dump\n',
              b'dump' + MARK, b'plain 0 10081 1\nfresh 8 1 4\nplain 0 10081 1\ncut 1 plain 1 1 1']
     for n, data in enumerate(edges):
         compare('edge %d' % n, data)
+    compare('every turn', every_turn())
+    LEFT.update(dict.fromkeys(LEFT, 0))  # of the random lines alone it is told what they met
     answers = sum(compare('seed %d file %d' % (seed, n), Day('%d %d' % (seed, n)).text(lines)) for n in range(files))
     print('seed %d: %d files of %d lines, %d lines of answers, no difference' % (seed, files, lines, answers))
     print('plain and read of the same: %d on tables of finished calls, all alike; %d on others, %d of them unlike'
           % (PAIRS[True][0], *PAIRS[False]))
+    print('left: ' + ', '.join('%s %d' % told for told in LEFT.items()))
     if not PAIRS[True][0]:
         sys.exit('too few lines: plain and read were never compared')
 
