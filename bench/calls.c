@@ -191,7 +191,9 @@ static void a_write(void) {
 static uint64_t a_turn(uint64_t limit) {
     static const uint64_t far[] = {0, 0, FAR, 2 * FAR};
     if (one_in(last_issued < 3 ? 3 : 20)) return UINT64_MAX - 1 - below(2);
-    return last_issued + (one_in(3) ? 0 : limit) + far[below(4)] - 1 + below(3);
+    uint64_t turn = last_issued + (one_in(3) ? 0 : limit);
+    turn += far[below(4)];
+    return turn - 1 + below(3);
 }
 
 /* Mostly well-formed: the slips come from word, number and a_line. */

@@ -339,7 +339,9 @@ static uint64_t a_limit(void) {
 static uint64_t a_turn(uint64_t stamp, uint64_t limit) {
     static const uint64_t far[] = {0, 0, FAR, 2 * FAR};
     if (one_in(8)) return UINT64_MAX - below(3); /* of a small stamp as old as can be */
-    return stamp + (one_in(3) ? 0 : limit) + far[below(4)] - 1 + below(3);
+    uint64_t turn = stamp + (one_in(3) ? 0 : limit);
+    turn += far[below(4)];
+    return turn - 1 + below(3);
 }
 
 /* A minute of issue: mostly before now, often now, and now and then after it or long ago. */
