@@ -92,8 +92,8 @@ static uint64_t pool[POOL];
 static size_t n, v, m, pool_size, used; /* used: 64-bit words of the block in use */
 static uint64_t state, seed = 1, percent = 100;
 static uint64_t calls, words, by_call[CALLS], by_refusal[12], by_moves[5], by_load[11], by_kind[KINDS], by_answer[4];
-static uint64_t by_meeting[MEETINGS], most_visits, large_calls, stopped_cuts, issued_later, asked_after, bytes;
-static uint64_t by_turn[TURNS], by_beside[BESIDES], by_bytes[CALLS][9][2]; /* by the bytes of the number: all, those held or stored */
+static uint64_t by_turn[TURNS], by_meeting[MEETINGS], most_visits, large_calls, stopped_cuts, issued_later, asked_after, bytes;
+static uint64_t by_beside[BESIDES], by_bytes[CALLS][9][2]; /* by the bytes of the number: all, those held or stored */
 static int clean; /* whether finished calls from fresh have made the table, all with the lengths that fresh got */
 static Plains plains[2]; /* by clean */
 
