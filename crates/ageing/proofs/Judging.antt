@@ -1,7 +1,6 @@
 -- How long is left, the age of a permission, a law a way out, and the minutes of a set, in the code's own words. Assumes nothing.
-use Prim.Native.Nat.{ℕ, _+_, _^_, _<_, _≤_, _-_, _%_, min}
+use Prim.Native.Nat.{ℕ, _+_, _^_, _<_, _≤_, _-_, _%_}
 use native.Mathlib.Omega.{arith}
-use native.Mathlib.Nat.{min-eq-left, min-eq-right, min-le-right}
 use native.Mathlib.Decide.{ℕ-discrete, decLe}
 use mathlib.Core.Path.{_≡_, refl, sym, ap, ap₂, subst, _∙_}
 use mathlib.Core.Logic.{_≢_, dite}
@@ -39,26 +38,21 @@ left-small limit a good = let b = bounds limit a in fits (left-of limit a) (b .0
 kept : (limit a : ℕ) → limit ≤ 10080 → {z : ℤ} → z ≡ left-of limit a → toZ w64 (ofZ w64 z) ≡ left-of limit a
 kept limit a good e = ap (λ (z : ℤ). toZ w64 (ofZ w64 z)) e ∙ toZ-ofZ w64 (left-of limit a) (left-small limit a good)
 
--- the age is cut before it is taken from the limit
-module _ (limit a : ℕ) (good : limit ≤ 10080) {cut : ℕ} (e : cut ≡ min a (limit + 4611686018427387904)) where
-  at-cut : limit-minus-age limit cut ≡ left-of limit a
-  at-cut =
-      dite (decLe a (limit + 4611686018427387904))
-      (λ h. let q : cut ≡ a = e ∙ min-eq-left h in ap (limit-minus-age limit) q ∙ sym (near limit a h))
-      λ h. let k : limit + 4611686018427387904 ≤ a = omega arith in
-      let q : cut ≡ limit + 4611686018427387904 = e ∙ min-eq-right k in
-      sym (near limit cut (omega arith)) ∙ far limit cut (omega arith) ∙ sym (far limit a k)
+-- less than 2^62 minutes overdue, and more
+module _ (limit a : ℕ) (good : limit ≤ 10080) where
+  module _ (h : a < limit + 4611686018427387904) where
+    minus : toZ w64 limit -ℤ toZ w64 a ≡ left-of limit a
+    minus =
+        ap₂ (λ (y z : ℤ). y -ℤ z) (toZ-pos w64 limit (omega arith)) (toZ-pos w64 a (omega arith)) ∙ sym (near limit a (omega arith))
 
-  minus : toZ w64 limit -ℤ toZ w64 cut ≡ left-of limit a
-  minus =
-      let small : cut ≤ limit + 4611686018427387904 = rw e (min-le-right a (limit + 4611686018427387904)) in
-      ap₂ (λ (y z : ℤ). y -ℤ z) (toZ-pos w64 limit (omega arith)) (toZ-pos w64 cut (omega arith)) ∙ at-cut
+    pub left-fits : SFits w64 (toZ w64 limit -ℤ toZ w64 a)
+    left-fits = subst (SFits w64) (sym minus) (left-small limit a good)
 
-  pub left-fits : SFits w64 (toZ w64 limit -ℤ toZ w64 cut)
-  left-fits = subst (SFits w64) (sym minus) (left-small limit a good)
+    pub left-told : toZ w64 (ofZ w64 (toZ w64 limit -ℤ toZ w64 a)) ≡ left-of limit a
+    left-told = kept limit a good minus
 
-  pub left-told : toZ w64 (ofZ w64 (toZ w64 limit -ℤ toZ w64 cut)) ≡ left-of limit a
-  left-told = kept limit a good minus
+  pub left-at-least : limit + 4611686018427387904 ≤ a → negsuc 4611686018427387903 ≡ left-of limit a
+  left-at-least h = sym (far limit a h)
 
 -- the ways out of the judgement, as the code has their numbers
 module _ (limit now v s : ℕ) (good : limit ≤ 10080) where

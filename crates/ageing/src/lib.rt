@@ -1,6 +1,6 @@
 // The age of a permission: what is said of a stamp at a minute, under a limit, and how long is left; and the minutes that a set brings.
 ghost use mathlib.Core.Path.{_≡_};
-ghost use Prim.Native.Nat.{_≤_, min};
+ghost use Prim.Native.Nat.{_≤_};
 ghost use Rattle.model.specs.Age.{verdict, left-of, bad-time, bad-grant, late, stamp-of};
 ghost use Rattle.model.specs.Answers.{says-fresh};
 ghost use Rattle.model.specs.Said.{said-reading};
@@ -14,23 +14,15 @@ pub fn is_bad_time(limit: u64, minute: u64) -> bool
     (10080 < limit) | (minute == 18446744073709551615)
 }
 
-fn smaller(a: u64, b: u64) -> u64
-    ensures { λ r. ⌜ r ≡ min a b ⌝ }
-{
-    if a < b {
-        return a;
-    }
-    b
-}
-
-// How long is left: the limit minus the age, and -2^62 where that would be below it. The age is cut before the subtraction, so that
-// nothing wraps and no branch has to be foretold.
+// How long is left: the limit minus the age, and -2^62 where that would be below it. The age is tested first, so that nothing wraps.
 fn left_of(limit: u64, age: u64) -> i64
     requires { ⌜ limit ≤ 10080 ⌝ }
     ensures { λ r. ⌜ r ≡ left-of limit age ⌝ }
 {
-    let cut = smaller(age, limit + 4611686018427387904);
-    (limit as i64) - (cut as i64)
+    if age < limit + 4611686018427387904 {
+        return (limit as i64) - (age as i64);
+    }
+    -4611686018427387904
 }
 
 // What is said of a permission and its stamp. Requires a limit that refusal 3 lets pass.
