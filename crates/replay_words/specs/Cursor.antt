@@ -6,11 +6,14 @@ use mathlib.Core.Bool.{Bool}
 use mathlib.Core.Option.{Option, none, some}
 use mathlib.Core.List.{List, [], _∷_}
 use lib.ListN.{length, take, drop}
+use lib.IntN.{ℤ}
 use Rattle.replay_words.specs.Words.{before, lines, words}
 use Rattle.replay_words.specs.declared.Piece.{Piece}
 use Rattle.replay_words.specs.declared.Word.{Word}
 use Rattle.replay_words.specs.declared.Number.{Number}
 use Rattle.replay_words.specs.declared.Number.the-variants as number
+use Rattle.replay_words.specs.declared.Signed.{Signed}
+use Rattle.replay_words.specs.declared.Signed.the-variants as signed
 
 -- the first position from at on whose byte passes a test, or the length
 pub record First (f : ℕ → Bool) (bs : List ℕ) (at r : ℕ) : Type 0 where
@@ -41,3 +44,13 @@ pub record NextWord (bs : List ℕ) (at : ℕ) (r : Word) : Type 0 where
 abbrev pub told : Number → Option ℕ
 told (number.Value v) = some v
 told number.Not = none
+
+-- one that a signed number can have for its size
+abbrev pub Small : Option ℕ → Type 0
+Small none = Unit {0}
+Small (some n) = n < 9223372036854775808
+
+-- a signed number as the code says it
+abbrev pub told-signed : Signed → Option ℤ
+told-signed (signed.Value z) = some z
+told-signed signed.Not = none

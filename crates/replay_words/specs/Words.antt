@@ -1,10 +1,11 @@
--- From the bytes of a line to its words, and from a word to a number. Assumes nothing.
+-- From the bytes of a line to its words, and from a word to a number, signed or not. Assumes nothing.
 use Prim.Native.Nat.{ℕ, _+_, _*_, _-_}
 use Prim.Native.Char.{code}
 use mathlib.Core.Bool.{Bool, true, false, not, _||_, _&&_}
 use mathlib.Core.Option.{Option, none, some}
 use mathlib.Core.List.{List, [], _∷_}
 use lib.ListN.{length, getD, take, drop}
+use lib.IntN.{ℤ, pos, negℤ}
 use lib.Dec.{eqb, leb}
 use Rattle.model.specs.Choice.{choose}
 
@@ -101,3 +102,17 @@ number-from top v ds = choose (all-digits ds) (choose (leb (value v ds) top) (so
 unfoldable pub number : ℕ → List ℕ → Option ℕ
 number top [] = none
 number top (d ∷ ds) = number-from top 0 (d ∷ ds)
+
+-- a number as a signed one, and as a negative one
+abbrev pub whole : Option ℕ → Option ℤ
+whole none = none
+whole (some n) = some (pos n)
+
+abbrev pub negative : Option ℕ → Option ℤ
+negative none = none
+negative (some n) = some (negℤ (pos n))
+
+-- the signed number that a word is, if it is one of a size of at most top: a minus stands before a negative one
+unfoldable pub signed : ℕ → List ℕ → Option ℤ
+signed top [] = none
+signed top (b ∷ bs) = choose (eqb b (code "-")) (negative (number top bs)) (whole (number top (b ∷ bs)))

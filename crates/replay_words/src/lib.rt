@@ -2,8 +2,9 @@
 ghost use mathlib.Core.Path.{_≡_};
 ghost use Prim.Native.Nat.{_<_, _≤_};
 ghost use lib.ListN.{length};
-ghost use Rattle.replay_words.specs.Words.{sought, is-end, is-comment, is-gap, is-no-gap, mark-length, same, is-digit, all-digits, number};
-ghost use Rattle.replay_words.specs.Cursor.{First, PieceAt, NextWord, told};
+ghost use Rattle.model.specs.Choice.{choose};
+ghost use Rattle.replay_words.specs.Words.{sought, is-end, is-comment, is-gap, is-no-gap, mark-length, same, is-digit, all-digits, number, signed, whole, negative};
+ghost use Rattle.replay_words.specs.Cursor.{First, PieceAt, NextWord, Small, told, told-signed};
 
 // Whether a byte is one of two, or neither if they are not wanted.
 fn is_sought(c: u8, a: u8, b: u8, wanted: bool) -> bool
@@ -187,4 +188,43 @@ pub fn number_of(word: &[u8], top: u64) -> Number
         i += 1;
     }
     Number::Value(v)
+}
+
+// What a word says, if it is a signed number.
+pub enum Signed {
+    Value(i64),
+    Not,
+}
+
+fn with_sign(size: Number, minus: bool) -> Signed
+    requires { ⌜ Small (told size) ⌝ }
+    ensures { λ r. ⌜ told-signed r ≡ choose minus (negative (told size)) (whole (told size)) ⌝ }
+{
+    match size {
+        Number::Value(v) => {
+            let n = v as i64;
+            if minus {
+                let z = 0 - n;
+                return Signed::Value(z);
+            }
+            Signed::Value(n)
+        }
+        Number::Not => Signed::Not,
+    }
+}
+
+// The number of a word of decimal digits, with a minus before a negative one, if its size is at most `top`, which fits the type.
+pub fn signed_of(word: &[u8], top: u64) -> Signed
+    requires { ⌜ top < 9223372036854775808 ⌝ }
+    ensures { λ r. ⌜ told-signed r ≡ signed top (now (word .entry)) ⌝ }
+{
+    if word.len() == 0 {
+        return Signed::Not;
+    }
+    if word[0] == b'-' {
+        let size = number_of(&word[1..], top);
+        return with_sign(size, true);
+    }
+    let size = number_of(word, top);
+    with_sign(size, false)
 }
