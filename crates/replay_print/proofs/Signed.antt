@@ -1,9 +1,13 @@
 -- A signed number: its size, its digits behind a minus, and that what is printed is read again. Assumes nothing.
-use Prim.Native.Nat.{ℕ, suc, _+_, _-_, _≤_, _<_}
+use Prim.Native.Nat.{ℕ, zero, suc, _+_, _-_, _≤_, _<_}
 use native.Mathlib.Omega.{arith}
+use native.Mathlib.Nat.{le-of-lt}
 use mathlib.Core.Path.{_≡_, refl, sym, ap, subst, _∙_}
+use mathlib.Core.Logic.{_≢_}
 use mathlib.Core.Bool.{true, false}
+use mathlib.Core.Option.{some}
 use mathlib.Core.List.{List, []}
+use lib.ListN.{length, getD}
 use lib.IntN.{ℤ, pos, negsuc, natAbs}
 use lib.Signed.{_<ℤ_, ltZ, natAbs-le, nonNeg}
 use lib.Dec.{T, ltb→lt}
@@ -13,9 +17,12 @@ use mir.Val.{Fits, SFits, ofZ, toZ}
 use mir.ValLaws.{ofZ-fits, toZ-fits, toZ-ofZ, toZ-pos}
 use Rattle.buffer.specs.Put.{Put}
 use Rattle.buffer.proofs.Putting.{put-both}
+use Rattle.replay_words.specs.Words.{negative, signed}
+use Rattle.replay_words.proofs.SignedWord.{signed-whole}
 use Rattle.replay_print.specs.Text.{bytes}
-use Rattle.model.proofs.ListLaws.{true-false}
+use Rattle.model.proofs.ListLaws.{inside-held, true-false}
 use Rattle.replay_print.specs.Print.{decimal-of, line, signed-line, signed-of}
+use Rattle.replay_print.proofs.Printing.{no-zero-in-front, printed-is-read}
 
 -- the bits of a negative number turned over are its size less one
 module _ (z : ℤ) (f : SFits w64 z) (h : z <ℤ pos 0) where
@@ -82,3 +89,25 @@ module _ (z : ℤ) (f : SFits w64 z) where
         → Put (signed-of held) t third fourth u → Put (line []) u fourth after r → Put (signed-line words z) at before after r
     put-signed-words words p q d e =
         subst (λ (y : ℤ). Put (signed-line words y) at before after r) (toZ-ofZ w64 z f) (put-both (put-both (put-both p q) d) e)
+
+-- the first digit is no sign
+first-of : (n : ℕ) → 48 ≤ getD (decimal-of n) 0 0
+unfolding decimal-of
+first-of zero = omega arith
+first-of (suc x) = le-of-lt (no-zero-in-front (suc x) (omega arith))
+
+-- what is printed is read again
+pub printed-signed-is-read : (top : ℕ) (z : ℤ) → natAbs z ≤ top → signed top (signed-of z) ≡ some z
+unfolding signed signed-of
+printed-signed-is-read top (pos n) h =
+    sym (signed-whole top (decimal-of n) some-digit no-minus (sym (printed-is-read top n h)) refl)
+  where
+    first : 48 ≤ getD (decimal-of n) 0 0
+    first = first-of n
+
+    some-digit : length (decimal-of n) ≢ 0
+    some-digit e = absurd (omega (arith, inside-held (decimal-of n) 0 λ q. absurd (omega (arith, first))))
+
+    no-minus : getD (decimal-of n) 0 0 ≢ 45
+    no-minus e = absurd (omega (arith, first))
+printed-signed-is-read top (negsuc k) h = ap negative (printed-is-read top (suc k) h)

@@ -1,4 +1,5 @@
-// Document 01's examples that no statement proves, and the published FNV-1a vectors: each on a line of its own.
+// Document 01's examples that no statement proves, the published FNV-1a vectors, and signed numbers read and printed: each on a line of
+// its own.
 ghost use mathlib.Core.Path.{_≡_};
 ghost use Prim.Native.Nat.{_≤_};
 ghost use lib.ListN.{length};
@@ -10,6 +11,7 @@ use model::Reading;
 use model::Setting;
 use model::Starting;
 use places::Hand;
+use replay_words::Signed;
 
 // Twice as many slots as a table may have. It says nothing of its elements, so that no proof counts them; nor do the next two.
 fn too_many_slots() -> [u32; 16384] {
@@ -102,6 +104,24 @@ fn say_fnv(text: &[u8]) {
     say(b"\n");
 }
 
+fn say_number(z: i64) {
+    let mut line = [0u8; 384];
+    let n = replay_print::put_signed_line(&mut line, 0, b"", z);
+    say_first(&line, n);
+}
+
+// A word is read as a signed number of at most 2^62, and printed.
+fn say_signed(word: &[u8]) {
+    say(b"signed \"");
+    say(word);
+    say(b"\":");
+    let read = replay_words::signed_of(word, 4611686018427387904);
+    match read {
+        Signed::Value(z) => say_number(z),
+        Signed::Not => say(b" no number\n"),
+    }
+}
+
 // Animal 1 with permission 5, issued at minute 2.
 fn grant() -> Grant {
     Grant {
@@ -175,4 +195,12 @@ fn main() {
     say_fnv(b"foo");
     say_fnv(b"foobar");
     largest();
+    say_signed(b"720");
+    say_signed(b"0");
+    say_signed(b"-1");
+    say_signed(b"-0");
+    say_signed(b"-4611686018427387904");
+    say_signed(b"-4611686018427387905");
+    say_signed(b"+1");
+    say_signed(b"-");
 }
