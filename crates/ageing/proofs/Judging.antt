@@ -14,7 +14,7 @@ use mir.Val.{toZ, ofZ, SFits}
 use mir.ValLaws.{toZ-pos, toZ-ofZ}
 use Rattle.model.specs.Answers.{fresh, old}
 use Rattle.model.specs.Age.{bad-grant, bad-time, left-of, no-minute, standing-mark, verdict}
-use Rattle.model.specs.Left.{least-left, limit-minus-age}
+use Rattle.model.specs.Left.{least-left}
 use Rattle.model.specs.declared.Grant.{Grant}
 use Rattle.model.proofs.ListLaws.{true-false}
 use Rattle.model.proofs.Left.{bounds, far, near, says-old, says-standing, says-young}

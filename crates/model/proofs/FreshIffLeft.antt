@@ -7,8 +7,8 @@ use mathlib.Core.Logic.{dite}
 use mathlib.Core.Bool.{Bool, true, false}
 use mathlib.Core.Option.{Option, none, some}
 use mathlib.Core.List.{List}
-use lib.IntN.{ℤ, pos}
-use lib.Signed.{_≤ℤ_, _<ℤ_, clashℤ}
+use lib.IntN.{ℤ}
+use lib.Signed.{clashℤ}
 use lib.Dec.{eqb}
 use Rattle.model.specs.Choice.{choose}
 use Rattle.model.specs.Memory.{Mem, permission, stamp}

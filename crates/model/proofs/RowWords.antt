@@ -11,7 +11,7 @@ use mathlib.Core.List.{List, [], _∷_, _++_}
 use lib.IntN.{ℤ}
 use lib.Signed.{ltZ, ltZ-no}
 use lib.Dec.{T, eqb, ltb}
-use borrow.Author.Tests.{lt-ltb, le-ltb, eq-eqb, ne-eqb, le-leb, lt-leb}
+use borrow.Author.Tests.{lt-ltb, le-ltb, eq-eqb, ne-eqb}
 use Rattle.model.specs.Choice.{any, choose, first, range, there}
 use Rattle.model.specs.Memory.{animal, live, permission, stamp}
 use Rattle.model.specs.Hash.{bytes}

@@ -1,5 +1,5 @@
 -- Wish 4: how long is left, as a signed number; and that fresh is said exactly if it is not negative. Assumes nothing.
-use Prim.Native.Nat.{ℕ, _^_, _≤_}
+use Prim.Native.Nat.{ℕ, _^_}
 use mathlib.Core.Path.{_≡_}
 use mathlib.Core.Logic.{_↔_}
 use mathlib.Core.Bool.{true}
@@ -7,7 +7,7 @@ use mathlib.Core.Option.{some}
 use lib.IntN.{ℤ, pos, negℤ, _-ℤ_}
 use lib.Signed.{_≤ℤ_, _<ℤ_}
 use Rattle.model.specs.Memory.{Mem}
-use Rattle.model.specs.Calling.{Call, read, serve, did}
+use Rattle.model.specs.Calling.{read, serve, did}
 use Rattle.model.specs.Answers.{Answer, paper, says-fresh}
 use Rattle.model.specs.Age.{left-of}
 use Rattle.model.specs.AnyTable.{Table}

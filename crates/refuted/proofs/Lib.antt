@@ -1,3 +1,2 @@
 pub mod Blind
 pub mod Refuted
-pub mod Reached
