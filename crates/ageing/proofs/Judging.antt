@@ -13,11 +13,12 @@ use mir.Syntax.{w64}
 use mir.Val.{toZ, ofZ, SFits}
 use mir.ValLaws.{toZ-pos, toZ-ofZ}
 use Rattle.model.specs.Answers.{fresh, old}
-use Rattle.model.specs.Age.{bad-grant, bad-time, left-of, no-minute, standing-mark, verdict}
+use Rattle.model.specs.Age.{bad-grant, bad-time, left-of, no-minute, standing-mark, time-left, verdict}
 use Rattle.model.specs.Left.{least-left}
 use Rattle.model.specs.declared.Grant.{Grant}
 use Rattle.model.proofs.ListLaws.{true-false}
-use Rattle.model.proofs.Left.{bounds, far, near, says-old, says-standing, says-young}
+use Rattle.model.proofs.Left.{bounds, far, near}
+use Rattle.model.proofs.Verdict.{dated-left, says-old, says-standing, says-young, standing-left}
 
 -- a limit that refusal 3 lets pass
 pub good-limit : (limit now : ℕ) → bad-time limit now ≡ false → limit ≤ 10080
@@ -38,7 +39,7 @@ left-small limit a good = let b = bounds limit a in fits (left-of limit a) (b .0
 kept : (limit a : ℕ) → limit ≤ 10080 → {z : ℤ} → z ≡ left-of limit a → toZ w64 (ofZ w64 z) ≡ left-of limit a
 kept limit a good e = ap (λ (z : ℤ). toZ w64 (ofZ w64 z)) e ∙ toZ-ofZ w64 (left-of limit a) (left-small limit a good)
 
--- less than 2^62 minutes overdue, and more
+-- less than 2^62 minutes overdue, and as many or more
 module _ (limit a : ℕ) (good : limit ≤ 10080) where
   module _ (h : a < limit + 4611686018427387904) where
     minus : toZ w64 limit -ℤ toZ w64 a ≡ left-of limit a
@@ -48,23 +49,27 @@ module _ (limit a : ℕ) (good : limit ≤ 10080) where
     pub left-fits : SFits w64 (toZ w64 limit -ℤ toZ w64 a)
     left-fits = subst (SFits w64) (sym minus) (left-small limit a good)
 
-    pub left-told : toZ w64 (ofZ w64 (toZ w64 limit -ℤ toZ w64 a)) ≡ left-of limit a
-    left-told = kept limit a good minus
+    pub left-near : toZ w64 (ofZ w64 (toZ w64 limit -ℤ toZ w64 a)) ≡ left-of limit a
+    left-near = kept limit a good minus
 
-  pub left-at-least : limit + 4611686018427387904 ≤ a → negsuc 4611686018427387903 ≡ left-of limit a
-  left-at-least h = sym (far limit a h)
+  pub left-far : limit + 4611686018427387904 ≤ a → negsuc 4611686018427387903 ≡ left-of limit a
+  left-far h = sym (far limit a h)
 
 -- the ways out of the judgement, as the code has their numbers
 module _ (limit now v s : ℕ) (good : limit ≤ 10080) where
   pub judged-standing : s ≡ standing-mark → fresh (v % 2 ^ 32) (toZ w64 limit) ≡ verdict limit now v s
-  judged-standing e = ap (fresh (v % 2 ^ 32)) (toZ-pos w64 limit (omega arith)) ∙ says-standing limit now v s e
+  judged-standing e =
+      ap (fresh (v % 2 ^ 32)) (toZ-pos w64 limit (omega arith) ∙ sym (standing-left limit now s e)) ∙ says-standing limit now v s e
 
   module _ (ne : s ≢ standing-mark) (le : s ≤ now) {z : ℤ} (e : z ≡ left-of limit (now - s)) where
+    told : toZ w64 (ofZ w64 z) ≡ time-left limit now s
+    told = kept limit (now - s) good e ∙ sym (dated-left limit now s ne)
+
     pub judged-young : now - s ≤ limit → fresh (v % 2 ^ 32) (toZ w64 (ofZ w64 z)) ≡ verdict limit now v s
-    judged-young k = ap (fresh (v % 2 ^ 32)) (kept limit (now - s) good e) ∙ says-young limit now v s ne le k
+    judged-young k = ap (fresh (v % 2 ^ 32)) told ∙ says-young limit now v s ne le k
 
     pub judged-old : limit < now - s → old (toZ w64 (ofZ w64 z)) ≡ verdict limit now v s
-    judged-old k = ap old (kept limit (now - s) good e) ∙ says-old limit now v s ne le k
+    judged-old k = ap old told ∙ says-old limit now v s ne le k
 
 -- the minute behind now: 0 behind the largest number
 pub next-minute : (g : Grant) {n : ℕ} → g .minute < 2 ^ 64 → n ≡ (g .minute + 1) % 2 ^ 64 → leb n (g .issued) ≡ bad-grant g

@@ -14,13 +14,13 @@ use Rattle.model.specs.Age.{age, is-fresh, left-of, verdict}
 use Rattle.model.specs.Clock.{next-hand, passed-recent, seek-victim}
 use Rattle.model.specs.Listing.{list-record, listing, live-count, records}
 use Rattle.model.specs.Calls.{hit, hits, slot-of, some-live, vacant-place}
-use Rattle.model.specs.Examples.{AllHold, answers, cuts, edges, examples, late-lists, left-told, one-hurt, refusals, row-edges, row-examples, row-numbers, seen-through, turns, two-tags}
+use Rattle.model.specs.Examples.{AllHold, answers, cuts, edges, examples, late-lists, left-rows, one-hurt, refusals, row-edges, row-examples, row-numbers, seen-through, turns, two-tags}
 use Rattle.model.specs.Stores.{stores}
 use Rattle.model.specs.Row.{walk-to, row-left, row-says, row-clock, row-count, row-list, low-bytes}
 
 -- a refl for each row: where a definition says another thing, the first error is at the first row that is false
 pub all-hold : AllHold examples × AllHold refusals × AllHold turns × AllHold edges × AllHold cuts × AllHold late-lists × AllHold row-examples × AllHold row-edges
-    × AllHold (left-told answers) × AllHold (left-told (row-numbers 0))
+    × AllHold (left-rows answers) × AllHold (left-rows (row-numbers 0))
 unfolding hash fnv fnv-step bytes tag-from odd-up spread other-bucket tag place damaged range first good-lengths good-slots good-counters good-items hits hit vacant-place some-live visits next-level hops first-free free-slot lowest climb is-fresh age left-of verdict next-hand seek-victim passed-recent slot-of list-record records live-count listing stores seen-through walk-to row-left row-says row-clock row-count row-list low-bytes
 all-hold = (
   (refl, (refl, (refl, (refl, (refl, (refl, (refl, (refl, (refl, (refl, (refl, (refl, (refl, (refl, (refl, tt))))))))))))))),

@@ -13,7 +13,7 @@ use Rattle.model.specs.Memory.{Mem, animal, permission, stamp}
 use Rattle.model.specs.Shape.{Shape, right-lengths, shape-of, Ways}
 use Rattle.model.specs.Stores.{stores}
 use Rattle.model.specs.Answers.{Answer, absent, ahead, at-place, fresh, Listed, refusal-numbers, paper, listed, old, refused, started}
-use Rattle.model.specs.Age.{age, bad-time, is-fresh, judge, late, left-of, verdict, bad-grant}
+use Rattle.model.specs.Age.{bad-time, is-fresh, judge, late, time-left, verdict, bad-grant}
 use Rattle.model.specs.Clock.{Victim, victim}
 use Rattle.model.specs.Listing.{listing, live-count}
 use Rattle.model.specs.Calls.{Outcome, asked, busy, call, delete-at, enter-at, evict-at, evict-slot, find-at, held, hit, home-damage, refuse}
@@ -58,7 +58,7 @@ judged l limit now none = refl
 judged l limit now (some p) = go (is-fresh limit now (stamp l p)) (ltb now (stamp l p))
   where
     go : (b c : Bool)
-        → is-refusal (choose b (fresh (permission l p % 2 ^ 32) (left-of limit (age now (stamp l p)))) (choose c ahead (old (left-of limit (now - stamp l p))))) ≡ false
+        → is-refusal (choose b (fresh (permission l p % 2 ^ 32) (time-left limit now (stamp l p))) (choose c ahead (old (time-left limit now (stamp l p))))) ≡ false
     go true c = refl
     go false true = refl
     go false false = refl

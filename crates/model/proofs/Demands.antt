@@ -73,9 +73,9 @@ module _ (W : Ways) where
         ∙ ap (λ l. row-call (Z .places) (beyond (O .answer m (did c))) l c .answer) same-story
 
     freshes : (x limit now v : ℕ) (z : ℤ) → (O .answer m (did (read x limit now)) ≡ fresh v z) ⊎ (O .answer m (did (serve x limit now)) ≡ fresh v z)
-        → (p : ℕ) × (p < places W s) × Allowed (row W O s) x limit now v p
+        → (p : ℕ) × (p < places W s) × Allowed (row W O s) x limit now v z p
     freshes x limit now v z e =
-        subst (λ l. (p : ℕ) × (p < places W s) × Allowed l x limit now v p) same-story
+        subst (λ l. (p : ℕ) × (p < places W s) × Allowed l x limit now v z p) same-story
         (fresh-on W (s .memory) (s .right) m well-story x limit now v z e)
 
   pub our-row : Demand2 W O

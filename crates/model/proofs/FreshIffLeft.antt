@@ -15,12 +15,13 @@ use Rattle.model.specs.Memory.{Mem, permission, stamp}
 use Rattle.model.specs.Shape.{Shape, Ways, right-lengths, shape-of}
 use Rattle.model.specs.Answers.{Answer, absent, ahead, fresh, old, paper, refused}
 use Rattle.model.specs.Calling.{read, serve}
-use Rattle.model.specs.Age.{bad-time, judge, left-of, standing-mark, verdict}
+use Rattle.model.specs.Age.{bad-time, judge, left-of, standing-mark, time-left, verdict}
 use Rattle.model.specs.Calls.{busy, call, held, home-damage, refuse, tell}
 use Rattle.model.specs.Left.{FreshIffLeft, TellsTime, Timely}
 use Rattle.model.specs.Ours.{ours}
 use Rattle.model.proofs.ListLaws.{true-false}
-use Rattle.model.proofs.Left.{bounds, negative, not-negative, says-ahead, says-old, says-standing, says-young, whole}
+use Rattle.model.proofs.Left.{bounds, negative, not-negative, whole}
+use Rattle.model.proofs.Verdict.{dated-left, says-ahead, says-old, says-standing, says-young, standing-left}
 use Rattle.model.proofs.Runs.{serve-reads}
 
 -- an answer without a number
@@ -52,16 +53,19 @@ module _ (limit : ℕ) where
   -- whatever the permission and its stamp
   pub verdict-timely : (now v s : ℕ) → TellsTime limit (verdict limit now v s)
   verdict-timely now v s =
-      dite (ℕ-discrete s standing-mark)
-      (λ e. said (says-standing limit now v s e) (subst (λ (z : ℤ). TellsTime limit (fresh (v % 2 ^ 32) z)) (whole limit) (told-fresh (v % 2 ^ 32) 0 (omega arith))))
+      dite (ℕ-discrete s standing-mark) (λ e. said (says-standing limit now v s e) (fresh-of 0 (standing-left limit now s e ∙ sym (whole limit)) (omega arith)))
       λ ne. dite (decLt now s) (λ l. said (says-ahead limit now v s ne l) (untold limit ahead refl))
       λ l. let le : s ≤ now = omega arith in
-      dite (decLe (now - s) limit) (λ k. said (says-young limit now v s ne le k) (told-fresh (v % 2 ^ 32) (now - s) k))
+      let z = dated-left limit now s ne in
+      dite (decLe (now - s) limit) (λ k. said (says-young limit now v s ne le k) (fresh-of (now - s) z k))
       λ k. let lt : limit < now - s = omega arith in
-      said (says-old limit now v s ne le lt) (told-old (now - s) lt)
+      said (says-old limit now v s ne le lt) (subst (λ (z : ℤ). TellsTime limit (old z)) (sym z) (told-old (now - s) lt))
     where
       said : {a : Answer} → a ≡ verdict limit now v s → TellsTime limit a → TellsTime limit (verdict limit now v s)
       said e t = subst (TellsTime limit) e t
+
+      fresh-of : (a : ℕ) → time-left limit now s ≡ left-of limit a → a ≤ limit → TellsTime limit (fresh (v % 2 ^ 32) (time-left limit now s))
+      fresh-of a e h = subst (λ (z : ℤ). TellsTime limit (fresh (v % 2 ^ 32) z)) (sym e) (told-fresh (v % 2 ^ 32) a h)
 
   -- whatever place was found
   pub judge-timely : (l : List ℕ) (now : ℕ) (o : Option ℕ) → TellsTime limit (judge l limit now o)

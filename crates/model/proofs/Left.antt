@@ -1,21 +1,19 @@
--- How long is left: the limit minus the age, -2^62 at the least, and not negative exactly where the age is within the limit; and what is
--- said of a permission, a law a way. Assumes nothing.
-use Prim.Native.Nat.{ℕ, zero, suc, _+_, _-_, _%_, _^_, _<_, _≤_, min}
+-- How long is left: the limit minus the age, -2^62 at the least, and not negative exactly where the age is within the limit. Assumes nothing.
+use Prim.Native.Nat.{ℕ, zero, suc, _+_, _-_, _^_, _<_, _≤_, min}
 use native.Mathlib.Omega.{arith}
 use native.Mathlib.Nat.{le-min, min-eq-left, min-eq-right, min-le-right}
 use native.Mathlib.Decide.{decLe}
 use mathlib.Core.Path.{_≡_, refl, sym, ap, subst, _∙_}
-use mathlib.Core.Logic.{_≢_, dite}
+use mathlib.Core.Logic.{dite}
 use lib.IntN.{ℤ, pos, negℤ, _-ℤ_}
 use lib.Signed.{_≤ℤ_, _<ℤ_}
 use lib.Dec.{leb→le, ltb→lt, le→leb}
-use borrow.Author.Tests.{eq-eqb, le-leb, le-ltb, lt-leb, lt-ltb, ne-eqb}
-use Rattle.model.specs.Answers.{ahead, fresh, old}
-use Rattle.model.specs.Age.{age, is-fresh, left-of, standing-mark, verdict}
+use borrow.Author.Tests.{le-leb, le-ltb, lt-leb, lt-ltb}
+use Rattle.model.specs.Age.{left-of}
 use Rattle.model.specs.Left.{LeftIs, LeftLeast, least-left, limit-minus-age}
 
 -- a difference of two numbers, by which is the larger
-minus-small : (n k : ℕ) → k ≤ n → pos n -ℤ pos k ≡ pos (n - k)
+pub minus-small : (n k : ℕ) → k ≤ n → pos n -ℤ pos k ≡ pos (n - k)
 minus-small n zero h = ap pos (omega arith)
 minus-small n (suc k) h = rw (le-ltb n (suc k) h) refl
 
@@ -100,23 +98,3 @@ bounds limit a =
 -- standing: the whole limit
 pub whole : (limit : ℕ) → left-of limit 0 ≡ pos limit
 whole limit = let e : limit - 0 ≡ limit = omega arith in within limit 0 (omega arith) ∙ ap pos e
-
--- the ways of the judgement
-module _ (limit now v s : ℕ) where
-  pub says-standing : s ≡ standing-mark → fresh (v % 2 ^ 32) (pos limit) ≡ verdict limit now v s
-  unfolding verdict is-fresh age
-  says-standing e = rw (eq-eqb s standing-mark e, whole limit)
-
-  module _ (ne : s ≢ standing-mark) where
-    pub says-ahead : now < s → ahead ≡ verdict limit now v s
-    unfolding verdict is-fresh age
-    says-ahead l = rw (ne-eqb s standing-mark ne, lt-leb s now l, lt-ltb now s l)
-
-    module _ (le : s ≤ now) where
-      pub says-young : now - s ≤ limit → fresh (v % 2 ^ 32) (left-of limit (now - s)) ≡ verdict limit now v s
-      unfolding verdict is-fresh age
-      says-young k = rw (ne-eqb s standing-mark ne, le-leb s now le, le-leb (now - s) limit k)
-
-      pub says-old : limit < now - s → old (left-of limit (now - s)) ≡ verdict limit now v s
-      unfolding verdict is-fresh age
-      says-old k = rw (ne-eqb s standing-mark ne, le-leb s now le, lt-leb (now - s) limit k, le-ltb now s le)

@@ -1,11 +1,12 @@
 -- Where a definition says another thing than document 01, it shows here first
 pub mod AsWritten
--- Footing: lists, the hash, what a shape's numbers are like, calm memory, how long is left, the row's words, lengths and stores, late lists
+-- Footing: lists, the hash, what a shape's numbers are like, calm memory, how long is left, what is said of a permission, the row's words, lengths and stores, late lists
 pub mod ListLaws
 pub mod Hash
 pub mod ShapeLaws
 pub mod Calm
 pub mod Left
+pub mod Verdict
 pub mod RowWords
 pub mod Trace
 pub mod Lent

@@ -97,7 +97,7 @@ module _ (W : Ways) (m₀ : Mem) (right : right-lengths W m₀ ≡ true) where
     -- fresh is said only of a held permission in time
     pub fresh-on : (x limit now v : ℕ) (z : ℤ)
         → (O .answer m (did (read x limit now)) ≡ fresh v z) ⊎ (O .answer m (did (serve x limit now)) ≡ fresh v z)
-        → (p : ℕ) × (p < Y .places) × Allowed (m .items) x limit now v p
+        → (p : ℕ) × (p < Y .places) × Allowed (m .items) x limit now v z p
     fresh-on x limit now v z e =
         row-fresh (m .items) x limit now v z (Y .places) (sym (as-row-on (read x limit now) tt) ∙ ap plain (⊎-elim (λ e. e) served e))
       where

@@ -16,33 +16,36 @@ use Rattle.model.specs.Choice.{any, choose, first, range, there}
 use Rattle.model.specs.Memory.{animal, live, permission, stamp}
 use Rattle.model.specs.Hash.{bytes}
 use Rattle.model.specs.Answers.{ahead, fresh, old, says-fresh}
-use Rattle.model.specs.Age.{age, bad-grant, bad-time, is-fresh, late, left-of, verdict, standing-mark, no-minute}
+use Rattle.model.specs.Age.{bad-grant, bad-time, is-fresh, late, left-of, time-left, verdict, standing-mark, no-minute}
 use Rattle.model.specs.Listing.{list-record, live-count, records}
 use Rattle.model.specs.Row.{low-bytes, row-bad-grant, row-bad-time, row-count, row-late, row-left, row-list, row-says}
 use Rattle.model.specs.Left.{least-left, limit-minus-age}
 use Rattle.model.specs.declared.Grant.{Grant}
 use Rattle.model.proofs.ListLaws.{bool}
-use Rattle.model.proofs.Left.{left-is, left-least, says-ahead, says-old, says-standing, says-young}
+use Rattle.model.proofs.Left.{left-is, left-least, minus-small}
+use Rattle.model.proofs.Verdict.{dated-left, says-ahead, says-old, says-standing, says-young, standing-left}
 
 -- how long is left, with a sign or by cases
-pub left-signed : (limit now s : ℕ) → left-of limit (now - s) ≡ row-left limit now s
+pub left-signed : (limit now s : ℕ) → s ≤ now → left-of limit (now - s) ≡ row-left limit now s
 unfolding row-left
-left-signed limit now s =
-    bool (λ b. left-of limit (now - s) ≡ choose b least-left (limit-minus-age limit (now - s))) (ltZ (limit-minus-age limit (now - s)) least-left)
-    (λ t. left-least limit (now - s) (record { lt = subst T (sym t) tt })) λ f. left-is limit (now - s) (ltZ-no (subst (λ b. T (not b)) (sym f) tt))
+left-signed limit now s le =
+    rw (minus-small now s le)
+    (bool (λ b. left-of limit (now - s) ≡ choose b least-left (limit-minus-age limit (now - s))) (ltZ (limit-minus-age limit (now - s)) least-left)
+    (λ t. left-least limit (now - s) (record { lt = subst T (sym t) tt })) λ f. left-is limit (now - s) (ltZ-no (subst (λ b. T (not b)) (sym f) tt)))
 
 -- what is said of a permission
 pub says-is : (limit now v s : ℕ) → v < 2 ^ 32 → verdict limit now v s ≡ row-says limit now v s
 unfolding row-says
 says-is limit now v s h =
-    dite (ℕ-discrete s standing-mark) (λ e. sym (says-standing limit now v s e) ∙ rw (eq-eqb s standing-mark e, mod-eq-of-lt h))
+    dite (ℕ-discrete s standing-mark)
+    (λ e. sym (says-standing limit now v s e) ∙ rw (eq-eqb s standing-mark e, mod-eq-of-lt h, standing-left limit now s e))
     λ ne. dite (decLt now s) (λ l. sym (says-ahead limit now v s ne l) ∙ rw (ne-eqb s standing-mark ne, lt-ltb now s l))
     λ l. let le : s ≤ now = omega arith in
+    let z : time-left limit now s ≡ row-left limit now s = dated-left limit now s ne ∙ left-signed limit now s le in
     dite (decLe (now - s) limit)
-    (λ k. sym (says-young limit now v s ne le k)
-    ∙ rw (ne-eqb s standing-mark ne, le-ltb now s le, le-ltb limit (now - s) k, mod-eq-of-lt h, left-signed limit now s))
+    (λ k. sym (says-young limit now v s ne le k) ∙ rw (ne-eqb s standing-mark ne, le-ltb now s le, le-ltb limit (now - s) k, mod-eq-of-lt h, z))
     λ k. let lt : limit < now - s = omega arith in
-    sym (says-old limit now v s ne le lt) ∙ rw (ne-eqb s standing-mark ne, le-ltb now s le, lt-ltb limit (now - s) lt, left-signed limit now s)
+    sym (says-old limit now v s ne le lt) ∙ rw (ne-eqb s standing-mark ne, le-ltb now s le, lt-ltb limit (now - s) lt, z)
 
 -- a permission word above its range is judged modulo 2^32
 pub says-mod : (limit now v s : ℕ) → verdict limit now v s ≡ row-says limit now (v % 2 ^ 32) s
@@ -51,19 +54,17 @@ says-mod limit now v s = sym same ∙ says-is limit now (v % 2 ^ 32) s (mod-lt v
   where
     same : verdict limit now (v % 2 ^ 32) s ≡ verdict limit now v s
     same =
-        ap (λ z. choose (is-fresh limit now s) (fresh z (left-of limit (age now s))) (choose (ltb now s) ahead (old (left-of limit (now - s)))))
-        (mod-mod v (2 ^ 32))
+        ap (λ u. choose (is-fresh limit now s) (fresh u (time-left limit now s)) (choose (ltb now s) ahead (old (time-left limit now s)))) (mod-mod v (2 ^ 32))
 
-fresh-told : (b : Bool) (v : ℕ) (y : ℤ) (c : Bool) (z : ℤ) → says-fresh (choose b (fresh v y) (choose c ahead (old z))) ≡ b
-fresh-told true v y c z = refl
-fresh-told false v y true z = refl
-fresh-told false v y false z = refl
+fresh-told : (b c : Bool) (v : ℕ) (z : ℤ) → says-fresh (choose b (fresh v z) (choose c ahead (old z))) ≡ b
+fresh-told true c v z = refl
+fresh-told false true v z = refl
+fresh-told false false v z = refl
 
 -- a verdict says fresh exactly if the stamp is in time
 pub fresh-says : (limit now v s : ℕ) → says-fresh (verdict limit now v s) ≡ is-fresh limit now s
 unfolding verdict
-fresh-says limit now v s =
-    fresh-told (is-fresh limit now s) (v % 2 ^ 32) (left-of limit (age now s)) (ltb now s) (left-of limit (now - s))
+fresh-says limit now v s = fresh-told (is-fresh limit now s) (ltb now s) (v % 2 ^ 32) (time-left limit now s)
 
 pub fresh-is : (limit now v s : ℕ) → v < 2 ^ 32 → is-fresh limit now s ≡ says-fresh (row-says limit now v s)
 fresh-is limit now v s h = sym (fresh-says limit now v s) ∙ ap says-fresh (says-is limit now v s h)

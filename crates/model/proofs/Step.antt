@@ -13,7 +13,7 @@ use Rattle.model.specs.Memory.{Mem, animal, permission, place, stamp, ta
 use Rattle.model.specs.Shape.{Shape, counter-of, homes}
 use Rattle.model.specs.Stores.{recency, remove, wholes}
 use Rattle.model.specs.Answers.{Answer, absent, ahead, at-place, fresh, listed, old, refused}
-use Rattle.model.specs.Age.{age, is-fresh, judge, left-of, verdict}
+use Rattle.model.specs.Age.{is-fresh, judge, time-left, verdict}
 use Rattle.model.specs.Listing.{listing, live-count, records}
 use Rattle.model.specs.Calls.{Outcome, asked, delete-at, find-at, held, hits, place-at, serve-at, tell}
 use Rattle.model.specs.Row.{Row, note, plain, row-asked, row-call, row-count, row-delete, row-find, row-list, row-read, beyond, row-serve, stay, walk-to}
@@ -38,8 +38,8 @@ plain-verdict : (limit now v s : ℕ) → plain (verdict limit now v s) ≡ verd
 unfolding verdict
 plain-verdict limit now v s = go (is-fresh limit now s) (ltb now s)
   where
-    go : (b c : Bool) → plain (choose b (fresh (v % 2 ^ 32) (left-of limit (age now s))) (choose c ahead (old (left-of limit (now - s)))))
-        ≡ choose b (fresh (v % 2 ^ 32) (left-of limit (age now s))) (choose c ahead (old (left-of limit (now - s))))
+    go : (b c : Bool) → plain (choose b (fresh (v % 2 ^ 32) (time-left limit now s)) (choose c ahead (old (time-left limit now s))))
+        ≡ choose b (fresh (v % 2 ^ 32) (time-left limit now s)) (choose c ahead (old (time-left limit now s)))
     go true c = refl
     go false true = refl
     go false false = refl

@@ -8,6 +8,7 @@ use Rattle.model.proofs.NoTen as ten
 use Rattle.model.proofs.FromIssue as issue
 use Rattle.model.proofs.Late as late
 use Rattle.model.proofs.Left as left
+use Rattle.model.proofs.Verdict as verdict
 use Rattle.model.proofs.FreshIffLeft as iff
 use Rattle.model.proofs.Linked as linked
 use Rattle.model.proofs.Paper as paper
@@ -32,6 +33,8 @@ owed =
       stamps-rise = late.stamps-rise;
       left-is = left.left-is;
       left-least = left.left-least;
+      held-tells = verdict.held-tells;
+      ahead-tells-nothing = verdict.ahead-tells-nothing;
       fresh-iff-left = iff.fresh-iff-left;
       leaves-lent = linked.leaves-lent four;
       cuts-lent = linked.cuts-lent four;

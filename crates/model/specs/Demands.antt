@@ -13,7 +13,7 @@ use Rattle.model.specs.Moves.{Move, moved-by, Free, Run}
 use Rattle.model.specs.Visits.{sum-of-powers, visit-list}
 use Rattle.model.specs.Calling.{Call, read, serve, set-animal, Event, make-fresh, did, Typed, AllTyped, about, gone, HasCut}
 use Rattle.model.specs.Answers.{Answer, refused, fresh, stored, started, Listed}
-use Rattle.model.specs.Age.{no-minute, standing-mark}
+use Rattle.model.specs.Age.{no-minute, standing-mark, time-left}
 use Rattle.model.specs.Calls.{hits}
 use Rattle.model.specs.Row.{walk-to, row-event, row-late, row-says, plain, beyond}
 use Rattle.model.specs.declared.Grant.{Grant}
@@ -26,26 +26,28 @@ pub record Demand1 (T : Table) : Type 0 where
   pub unchanged : (m : Mem) (e : Event) (n : ℕ) → T .answer m e ≡ refused n → leaves T m e ≡ m
   pub uncut : (m : Mem) (e : Event) (n : ℕ) → T .answer m e ≡ refused n → (k : ℕ) → cut-at T k m e ≡ m
 
--- in the row l, place p holds animal x with permission v, and is standing or within the age limit
-pub record Allowed (l : List ℕ) (x limit now v p : ℕ) : Type 0 where
+-- in the row l, place p holds animal x with permission v, is standing or within the age limit, and has z minutes left
+pub record Allowed (l : List ℕ) (x limit now v : ℕ) (z : ℤ) (p : ℕ) : Type 0 where
   pub real : x ≢ 0
   pub animal-is : animal l p ≡ x
   pub permission-is : permission l p ≡ v
   pub in-time : (stamp l p ≡ standing-mark) ⊎ ((stamp l p ≤ now) × (now - stamp l p ≤ limit))
+  pub left-is : z ≡ time-left limit now (stamp l p)
 
--- in any item words l, place p holds animal x with permission v modulo 2^32, and is standing or within the age limit
-pub record Holds (l : List ℕ) (x limit now v p : ℕ) : Type 0 where
+-- in any item words l, place p holds animal x with permission v modulo 2^32, is standing or within the age limit, and has z minutes left
+pub record Holds (l : List ℕ) (x limit now v : ℕ) (z : ℤ) (p : ℕ) : Type 0 where
   pub real : x ≢ 0
   pub inside : 4 * p < length l
   pub animal-is : animal l p ≡ x
   pub permission-is : permission l p % 2 ^ 32 ≡ v
   pub in-time : (stamp l p ≡ standing-mark) ⊎ ((stamp l p ≤ now) × (now - stamp l p ≤ limit))
+  pub left-is : z ≡ time-left limit now (stamp l p)
 
 -- Fresh anywhere, beyond the order: on any lent memory, a damaged cabinet's too, fresh is said only of such a place
 abbrev pub FreshAnywhere : Table → Type 0
 FreshAnywhere T = (m : Mem) (x limit now v : ℕ) (z : ℤ)
     → (T .answer m (did (read x limit now)) ≡ fresh v z) ⊎ (T .answer m (did (serve x limit now)) ≡ fresh v z)
-    → (p : ℕ) × Holds (m .items) x limit now v p
+    → (p : ℕ) × Holds (m .items) x limit now v z p
 
 -- good inputs of a set: what a caller can pass and neither refusal 2 nor 3 refuses
 pub record GoodInputs (g : Grant) : Type 0 where
@@ -149,7 +151,7 @@ module _ (W : Ways) where
   abbrev pub FreshOnly : Table → Type 0
   FreshOnly T = (s : Story) (x limit now v : ℕ) (z : ℤ)
       → (T .answer (table T s) (did (read x limit now)) ≡ fresh v z) ⊎ (T .answer (table T s) (did (serve x limit now)) ≡ fresh v z)
-      → (p : ℕ) × (p < places s) × Allowed (row T s) x limit now v p
+      → (p : ℕ) × (p < places s) × Allowed (row T s) x limit now v z p
 
   abbrev pub reads : Table → Mem → ℕ → ℕ → ℕ → Answer
   reads T m x limit now = T .answer m (did (read x limit now))

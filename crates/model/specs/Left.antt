@@ -1,15 +1,15 @@
 -- Wish 4: how long is left, as a signed number; and that fresh is said exactly if it is not negative. Assumes nothing.
-use Prim.Native.Nat.{ℕ, _^_}
+use Prim.Native.Nat.{ℕ, _^_, _<_, _≤_}
 use mathlib.Core.Path.{_≡_}
-use mathlib.Core.Logic.{_↔_}
+use mathlib.Core.Logic.{_≢_, _↔_, _⊎_}
 use mathlib.Core.Bool.{true}
 use mathlib.Core.Option.{some}
 use lib.IntN.{ℤ, pos, negℤ, _-ℤ_}
 use lib.Signed.{_≤ℤ_, _<ℤ_}
 use Rattle.model.specs.Memory.{Mem}
 use Rattle.model.specs.Calling.{read, serve, did}
-use Rattle.model.specs.Answers.{Answer, paper, says-fresh}
-use Rattle.model.specs.Age.{left-of}
+use Rattle.model.specs.Answers.{Answer, ahead, paper, says-fresh}
+use Rattle.model.specs.Age.{left-of, standing-mark, time-left, verdict}
 use Rattle.model.specs.AnyTable.{Table}
 
 -- the limit minus the age, and the least number that is told
@@ -26,17 +26,24 @@ LeftIs = (limit a : ℕ) → least-left ≤ℤ limit-minus-age limit a → left-
 abbrev pub LeftLeast : Type 0
 LeftLeast = (limit a : ℕ) → limit-minus-age limit a <ℤ least-left → left-of limit a ≡ least-left
 
--- an answer that tells how long is left, z, and says fresh exactly if that is not negative; z lies between -2^62 and the limit
+-- what is said of a permission that is standing or not ahead tells how long is left; one that is ahead is the named answer, with no number
+abbrev pub HeldTells : Type 0
+HeldTells = (limit now v s : ℕ) → (s ≡ standing-mark) ⊎ (s ≤ now) → paper (verdict limit now v s) .signed ≡ some (time-left limit now s)
+
+abbrev pub AheadTellsNothing : Type 0
+AheadTellsNothing = (limit now v s : ℕ) → s ≢ standing-mark → now < s → verdict limit now v s ≡ ahead
+
+-- an answer that tells z says fresh exactly if z is not negative; and z lies between -2^62 and the limit
 pub record Timely (limit : ℕ) (a : Answer) (z : ℤ) : Type 0 where
   pub fresh-iff-left : (says-fresh a ≡ true) ↔ (pos 0 ≤ℤ z)
   pub least : least-left ≤ℤ z
   pub most : z ≤ℤ pos limit
 
--- what an answer tells of a permission that is held and not ahead
+-- so does whatever number an answer tells
 abbrev pub TellsTime : ℕ → Answer → Type 0
 TellsTime limit a = (z : ℤ) → paper a .signed ≡ some z → Timely limit a z
 
--- of any table, on any memory: read and serve say fresh exactly if what is left is not negative
+-- of any table, on any memory: read and serve say fresh exactly if what they tell is not negative
 abbrev pub FreshIffLeft : Table → Type 0
 FreshIffLeft T = (m : Mem) (x limit now : ℕ)
     → TellsTime limit (T .answer m (did (read x limit now))) × TellsTime limit (T .answer m (did (serve x limit now)))

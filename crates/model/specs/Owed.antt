@@ -12,13 +12,13 @@ use Rattle.model.specs.Answers.{Answer, paper, refused}
 use Rattle.model.specs.Calling.{Call, did, evict, make-fresh}
 use Rattle.model.specs.Lent.{after-fresh, lent-after, lent-call, lent-cut}
 use Rattle.model.specs.Late.{LateRefused, StampsRise}
-use Rattle.model.specs.Left.{FreshIffLeft, LeftIs, LeftLeast}
+use Rattle.model.specs.Left.{AheadTellsNothing, FreshIffLeft, HeldTells, LeftIs, LeftLeast}
 use Rattle.model.specs.WellFormed.{WellFormed}
 use Rattle.model.specs.AnyTable.{cut-at, leaves}
 use Rattle.model.specs.Demands.{AgeFromIssue, Demand1, Demand2, Demand3, FreshAnywhere, NeverLost, Story, shape-in, table}
 use Rattle.model.specs.Ours.{gate, ours}
 use Rattle.model.specs.declared.Grant.{Grant}
-use Rattle.model.specs.Examples.{AllHold, answers, cuts, edges, examples, late-lists, left-told, one-hurt, refusals, row-edges, row-examples, row-numbers, turns, two-tags}
+use Rattle.model.specs.Examples.{AllHold, answers, cuts, edges, examples, late-lists, left-rows, one-hurt, refusals, row-edges, row-examples, row-numbers, turns, two-tags}
 
 pub record Owed : Type 0 where
   -- the order's three demands, of the gate's table; and of wish 13's
@@ -38,9 +38,11 @@ pub record Owed : Type 0 where
   pub age-from-issue : (W : Ways) → AgeFromIssue W (ours W)
   pub late-refused : (W : Ways) (m : Mem) (g : Grant) → LateRefused W m g
   pub stamps-rise : (W : Ways) (m : Mem) (g : Grant) → StampsRise W m g
-  -- wish 4: what is left is the limit minus the age, -2^62 at the least; on any memory, fresh is said exactly if it is not negative
+  -- wish 4: what is left is the limit minus the age, -2^62 at the least; who tells it; on any memory, fresh is said exactly if it is not negative
   pub left-is : LeftIs
   pub left-least : LeftLeast
+  pub held-tells : HeldTells
+  pub ahead-tells-nothing : AheadTellsNothing
   pub fresh-iff-left : (W : Ways) → FreshIffLeft (ours W)
   -- what the code's contracts cite is what the demands speak of
   pub leaves-lent : (m : Mem) (c : Call) → leaves gate m (did c) ≡ lent-after four m c
@@ -50,7 +52,7 @@ pub record Owed : Type 0 where
   pub paper-injective : (a b : Answer) → paper a ≡ paper b → a ≡ b
   -- the definitions say what the document's examples say, and what its rules say at their edges and at every cut
   pub all-hold : AllHold examples × AllHold refusals × AllHold turns × AllHold edges × AllHold cuts × AllHold late-lists × AllHold row-examples × AllHold row-edges
-      × AllHold (left-told answers) × AllHold (left-told (row-numbers 0))
+      × AllHold (left-rows answers) × AllHold (left-rows (row-numbers 0))
   pub not-legal : ¬ Legal (shape-of four two-tags .layout) (two-tags .slots) (record { from = 2; to = 8 })
   pub not-well : ¬ WellFormed (shape-of four (one-hurt 3)) (one-hurt 3)
   pub most-visits-are : (2 * sum-of-powers 4 4 ≡ 682) × (2 * sum-of-powers 8 3 ≡ 1170)

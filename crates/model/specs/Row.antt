@@ -42,9 +42,9 @@ note l p mark = set l (4 * p + 3) mark
 abbrev pub at-least : ℤ → ℤ
 at-least z = choose (ltZ z (negℤ (pos (2 ^ 62)))) (negℤ (pos (2 ^ 62))) z
 
--- how long is left of a permission with stamp s, worked out with a sign: the limit minus now minus s
+-- how long is left of a permission with stamp s, with a sign throughout: the limit minus the age, which is now minus s
 unfoldable pub row-left : ℕ → ℕ → ℕ → ℤ
-row-left limit now s = at-least (pos limit -ℤ pos (now - s))
+row-left limit now s = at-least (pos limit -ℤ (pos now -ℤ pos s))
 
 -- a permission v with stamp s: standing is fresh with the whole limit left; else ahead, or fresh, or old, by the age
 unfoldable pub row-says : ℕ → ℕ → ℕ → ℕ → Answer

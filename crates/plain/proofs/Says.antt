@@ -98,11 +98,11 @@ module _ (l : List ℕ) (x limit now : ℕ) where
   pub plain-fresh : PlainFresh l x limit now
   plain-fresh v z e = go (good-items (length l)) (eqb x 0) (bad-time limit now) (eqb-false x 0) (sym (by-tests refl refl refl) ∙ e)
     where
-      at : x ≢ 0 → {o : Option ℕ} → First (λ p. eqb (animal l p) x) (range 0 (length l / 4)) o → judge l limit now o ≡ fresh v z → (p : ℕ) × Holds l x limit now v p
+      at : x ≢ 0 → {o : Option ℕ} → First (λ p. eqb (animal l p) x) (range 0 (length l / 4)) o → judge l limit now o ≡ fresh v z → (p : ℕ) × Holds l x limit now v z p
       at nz (missing h) e = not-fresh l x limit now v z absent refl e
       at nz (found {i = p} q t) e = (p, held-in-time l x limit now v z p nz (eqb-true (animal l p) x t) e)
 
-      go : (g n b : Bool) → (n ≡ false → x ≢ 0) → by g n b place ≡ fresh v z → (p : ℕ) × Holds l x limit now v p
+      go : (g n b : Bool) → (n ≡ false → x ≢ 0) → by g n b place ≡ fresh v z → (p : ℕ) × Holds l x limit now v z p
       go false n b nz e = not-fresh l x limit now v z (refused 1) refl e
       go true true b nz e = not-fresh l x limit now v z (refused 2) refl e
       go true false true nz e = not-fresh l x limit now v z (refused 3) refl e

@@ -53,9 +53,9 @@ module _ (l : List ℕ) (x limit now : ℕ) where
     pub first : Answered → (p : ℕ) → FirstWith l x p → said ≡ row-says limit now (permission l p % 2 ^ 32) (stamp l p)
     pub nowhere : Answered → ((p : ℕ) → p < length l / 4 → animal l p ≢ x) → said ≡ absent
 
-  -- fresh is said only if some place holds that number, standing or in time, with that permission modulo 2^32
+  -- fresh is said only if some place holds that number, standing or in time, with that permission modulo 2^32 and that time left
   abbrev pub PlainFresh : Type 0
-  PlainFresh = (v : ℕ) (z : ℤ) → said ≡ fresh v z → (p : ℕ) × Holds l x limit now v p
+  PlainFresh = (v : ℕ) (z : ℤ) → said ≡ fresh v z → (p : ℕ) × Holds l x limit now v z p
 
 module _ (W : Ways) where
   -- on every well-formed memory it says what read says, for every number, limit and minute

@@ -239,10 +239,10 @@ module _ (W : Ways) where
     -- it says fresh only of a held permission in time
     freshes : (x limit now v : ℕ) (z : ℤ)
         → (B .answer (table W B s) (did (read x limit now)) ≡ fresh v z) ⊎ (B .answer (table W B s) (did (serve x limit now)) ≡ fresh v z)
-        → (p : ℕ) × (p < places W s) × Allowed (row W B s) x limit now v p
+        → (p : ℕ) × (p < places W s) × Allowed (row W B s) x limit now v z p
     freshes x limit now v z =
         over (λ m l. (O .answer m (did (read x limit now)) ≡ fresh v z) ⊎ (O .answer m (did (serve x limit now)) ≡ fresh v z)
-        → (p : ℕ) × (p < places W s) × Allowed l x limit now v p) (our-row W .fresh-only s x limit now v z)
+        → (p : ℕ) × (p < places W s) × Allowed l x limit now v z p) (our-row W .fresh-only s x limit now v z)
 
     -- and its reads at a cut are those that demand 2 allows
     cuts : (c : Call) → Typed c → (k x limit now : ℕ)

@@ -1,5 +1,5 @@
 -- `ageing::judged` meets its contract. Assumes nothing.
-use Rattle.model.proofs.Left.{says-ahead}
+use Rattle.model.proofs.Verdict.{says-ahead}
 use Rattle.ageing.proofs.Judging.{judged-standing, judged-young, judged-old}
 use borrow.Author.Needs.{needs}
 use Rattle.ageing.proofs.judged.Statement.{statement}
