@@ -64,6 +64,7 @@
 
 /* This header's version, as text and as numbers. The archive has none to ask for: ship both from one release.
    A caller of 2.x that reads the age does not compile: left is the limit minus the age. Any other needs no change.
+   Don't only rename it: left <= limit is true of every reply. Test kind, or ask boughladder_lane.
    A caller of 1.0.0 does not compile: each set takes one minute more, and over a table a standing one takes two.
    Compile and link everything again. What is mixed does link (only plain read is missing before 2.1.0):
      - what was compiled with 2.x takes what is left for the age: in its last good minute a permission looks new;

@@ -33,7 +33,11 @@ ALLOWED = {
     'docs/replay-format.md': {'srve', 'standig'},
     # edits that went in that landing
     'docs/landings/00-ready.md': {'no-closing-addition', 'six-one-level-early', 'place_m_is_sound',
-                                  'serve_edge_off_by_one'},
+                                  'serve_edge_off_by_one', 'refuted/proofs/Reached'},
+    # what was renamed or went in landing 04
+    'docs/landings/01-age-from-issue.md': {'another-age-2'},
+    'docs/landings/04-time-left.md': {'age-told', 'another-age-2', 'refuted/proofs/Reached', 'standing_has_age_1',
+                                      'age_before_permission', 'age_wraps'},
 }
 
 

@@ -65,7 +65,7 @@ static void serve(uint64_t animal, uint64_t limit, uint64_t now, enum Boughladde
     if (r.refusal != 0)
         printf("refusal %u, %s\n", (unsigned)r.refusal, boughladder_refusal_text(r.refusal));
     else if (r.kind == BOUGHLADDER_FRESH)
-        printf("fresh, permission %" PRIu32 ", %" PRId64 " minutes left\n", r.permission, r.left);
+        printf("fresh, permission %" PRIu32 ", %" PRId64 " minute%s left\n", r.permission, r.left, r.left == 1 ? "" : "s");
     else if (r.kind == BOUGHLADDER_OLD)
         printf("old, %" PRId64 " minute%s overdue\n", -r.left, r.left == -1 ? "" : "s");
     else if (r.kind == BOUGHLADDER_AHEAD)

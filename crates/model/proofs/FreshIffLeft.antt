@@ -53,7 +53,8 @@ module _ (limit : ℕ) where
   -- whatever the permission and its stamp
   pub verdict-timely : (now v s : ℕ) → TellsTime limit (verdict limit now v s)
   verdict-timely now v s =
-      dite (ℕ-discrete s standing-mark) (λ e. said (says-standing limit now v s e) (fresh-of 0 (standing-left limit now s e ∙ sym (whole limit)) (omega arith)))
+      dite (ℕ-discrete s standing-mark)
+      (λ e. said (says-standing limit now v s e) (fresh-of 0 (standing-left limit now s e ∙ sym (whole limit)) (omega arith)))
       λ ne. dite (decLt now s) (λ l. said (says-ahead limit now v s ne l) (untold limit ahead refl))
       λ l. let le : s ≤ now = omega arith in
       let z = dated-left limit now s ne in

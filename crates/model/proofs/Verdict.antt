@@ -2,10 +2,9 @@
 use Prim.Native.Nat.{ℕ, _-_, _%_, _^_, _<_, _≤_}
 use native.Mathlib.Omega.{arith}
 use native.Mathlib.Decide.{ℕ-discrete, decLe}
-use mathlib.Core.Path.{_≡_, refl, sym, ap, _∙_}
+use mathlib.Core.Path.{_≡_, refl, sym, ap}
 use mathlib.Core.Logic.{_≢_, dite, ⊎-elim}
-use mathlib.Core.Option.{some}
-use lib.IntN.{ℤ, pos}
+use lib.IntN.{pos}
 use borrow.Author.Tests.{eq-eqb, le-leb, le-ltb, lt-leb, lt-ltb, ne-eqb}
 use Rattle.model.specs.Answers.{Answer, ahead, fresh, old, paper}
 use Rattle.model.specs.Age.{age, is-fresh, left-of, standing-mark, time-left, verdict}

@@ -210,8 +210,7 @@ misreads-fresh-2 f v z e D = says-fresh-2 (misreads f) v z e D
 pub always-fresh-2 : (v : ℕ) (z : ℤ) → Demand2 four (misreads (λ r. fresh v z)) → ⊥
 always-fresh-2 v z = misreads-fresh-2 (λ r. fresh v z) v z refl
 
--- any table at all that stores a set of the minute before, and then tells another number than 719 of 720, as the age would be, breaks
--- demand 2
+-- any table at all that stores a set of the minute before, and then tells another number than 719, the age 1, say, breaks demand 2
 pub another-left-2 : (T : Table) (v n : ℕ) (z : ℤ) → T .answer (table four T none-yet) set-earlier ≡ stored v n
     → plain (T .answer (table four T earlier-in) read-one) ≡ fresh 5 z → z ≢ pos 719 → Demand2 four T → ⊥
 unfolding computing

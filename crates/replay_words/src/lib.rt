@@ -196,6 +196,7 @@ pub enum Signed {
     Not,
 }
 
+// A number of that size, below zero if there was a minus.
 fn with_sign(size: Number, minus: bool) -> Signed
     requires { ⌜ Small (told size) ⌝ }
     ensures { λ r. ⌜ told-signed r ≡ choose minus (negative (told size)) (whole (told size)) ⌝ }
