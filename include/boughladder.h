@@ -64,7 +64,8 @@
 
 /* This header's version, as text and as numbers. The archive has none to ask for: ship both from one release.
    A caller of 2.x that reads the age does not compile: left is the limit minus the age. Any other needs no change.
-   Don't only rename it: left <= limit is true of every reply. Test kind, or ask boughladder_lane.
+   Don't only rename it: left <= limit is true of absent, ahead and refused, and with a signed limit of old as well.
+   Test kind, or ask boughladder_lane.
    A caller of 1.0.0 does not compile: each set takes one minute more, and over a table a standing one takes two.
    Compile and link everything again. What is mixed does link (only plain read is missing before 2.1.0):
      - what was compiled with 2.x takes what is left for the age: in its last good minute a permission looks new;
@@ -152,7 +153,7 @@ enum BoughladderRefusal {
 enum BoughladderKind {
     BOUGHLADDER_ABSENT = 0,   /* the animal is not held */
     BOUGHLADDER_FRESH = 1,    /* a permission within the limit, or a standing one, which has the whole limit left */
-    BOUGHLADDER_OLD = 2,      /* a permission beyond the limit: how long it is overdue is told, and it is not */
+    BOUGHLADDER_OLD = 2,      /* a permission beyond the limit: how long it is overdue is told, and no permission */
     BOUGHLADDER_AHEAD = 3,    /* a stamp later than now */
     BOUGHLADDER_AT_PLACE = 9  /* find: the animal is held at a place */
 };
@@ -162,8 +163,8 @@ enum BoughladderLane { BOUGHLADDER_HOLDING = 0, BOUGHLADDER_MILKING = 1, BOUGHLA
 
 /* Read, serve and plain read, in 16 bytes: two registers.
    Where fresh, left is 0 or more: 0 in the last good minute. Where old, it is below 0, BOUGHLADDER_LEAST_LEFT at the
-   least, so that -left, the minutes overdue, never overflows. Ahead, absent and refused have 0, which tells nothing.
-   Look at kind first: left >= 0 alone takes an absent animal for fresh. boughladder_lane is the safe way. */
+   least, so that -left, the minutes overdue up to 2^62, never overflows. Ahead, absent and refused have 0, which tells
+   nothing. Look at kind first: left >= 0 alone takes an absent animal for fresh. boughladder_lane is the safe way. */
 typedef struct BoughladderReading {
     uint16_t refusal;
     uint16_t kind;        /* absent, fresh, old or ahead */

@@ -68,7 +68,7 @@ class Refusal(Exception):
 class Reading:
     """What read, serve and plain read say. Fresh alone opens nothing: see lane().
 
-    It is no tuple: one that a caller of 2.x takes apart would hand it what is left for the age.
+    It is no tuple: a caller of 2.x that takes one apart would take what is left for the age.
     """
     kind: str                          # absent, fresh, old or ahead
     permission: Optional[int] = None   # where fresh

@@ -150,7 +150,7 @@ pub enum Reading {
     Absent,
     /// A permission within the limit: 0 is left in the last good minute. A standing one has the whole limit left.
     Fresh { permission: u32, left: i64 },
-    /// A permission beyond the limit: `-left`, the minutes overdue, is told, and it is not. `left` is below 0.
+    /// A permission beyond the limit, which is not told: `left` is below 0, and `-left` are the minutes overdue.
     Old { left: i64 },
     /// The stamp is later than now.
     Ahead,

@@ -1,6 +1,6 @@
 -- The C clothes of an answer: document 01's number and values of it, as the fields of a reply. Assumes nothing.
 use Prim.Native.Nat.{ℕ}
-use mathlib.Core.Option.{Option, none, some}
+use mathlib.Core.Option.{Option·getD}
 use lib.IntN.{ℤ, pos}
 use Rattle.model.specs.Choice.{choose}
 use Rattle.model.specs.Answers.{Answer, hand-back, is, paper, value}
@@ -18,12 +18,8 @@ number a = paper a .number
 abbrev pub permission-told : Answer → ℕ
 permission-told a = choose (is 1 a) (value a 1) 0
 
-abbrev pub or-zero : Option ℤ → ℤ
-or-zero none = pos 0
-or-zero (some z) = z
-
 abbrev pub left-told : Answer → ℤ
-left-told a = or-zero (paper a .signed)
+left-told a = Option·getD (paper a .signed) (pos 0)
 
 -- read, serve and the plain engine
 abbrev pub reading-clothes : Answer → BoughladderReading

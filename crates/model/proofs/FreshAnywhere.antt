@@ -26,7 +26,7 @@ pub held-in-time : (l : List ℕ) (x limit now v : ℕ) (z : ℤ) (p : ℕ) → 
     → Holds l x limit now v z p
 held-in-time l x limit now v z p nz here e =
     let j = in-time l x limit now v z (permission l p % 2 ^ 32) (stamp l p) (sym (says-mod limit now (permission l p) (stamp l p)) ∙ e) in
-    record { real = nz; inside = inside-held l (4 * p) (rw here nz); animal-is = here; permission-is = j .0; in-time = j .1; left-is = j .2 }
+    record { real = nz; inside = inside-held l (4 * p) (rw here nz); animal-is = here; permission-is = j .0; in-time = j .1 }
 
 module _ (Y : Shape) (m : Mem) (x limit now v : ℕ) (z : ℤ) where
   at-hit : x ≢ 0 → {o : Option ℕ} → First (hits Y m x) (homes Y x) o → judge (m .items) limit now (place-at m o) ≡ fresh v z

@@ -5,7 +5,7 @@ use native.Mathlib.Decide.{ℕ-discrete, decLe, decLt}
 use mathlib.Core.Path.{_≡_, refl, sym, subst, _∙_}
 use mathlib.Core.Logic.{dite}
 use mathlib.Core.Bool.{Bool, true, false}
-use mathlib.Core.Option.{Option, none, some}
+use mathlib.Core.Option.{Option, none, some, Option·none-ne-some}
 use mathlib.Core.List.{List}
 use lib.IntN.{ℤ}
 use lib.Signed.{clashℤ}
@@ -26,14 +26,7 @@ use Rattle.model.proofs.Runs.{serve-reads}
 
 -- an answer without a number
 pub untold : (limit : ℕ) (a : Answer) → paper a .signed ≡ none → TellsTime limit a
-untold limit a n z e = absurd (none-some (sym n ∙ e))
-  where
-    none-some : none ≡ some z → ⊥
-    none-some q = subst Told (sym q) tt
-      where
-        Told : Option ℤ → Type 0
-        Told none = ⊥
-        Told (some y) = Unit {0}
+untold limit a n z e = absurd (Option·none-ne-some z (sym n ∙ e))
 
 module _ (limit : ℕ) where
   told-fresh : (v a : ℕ) → a ≤ limit → TellsTime limit (fresh v (left-of limit a))

@@ -1,7 +1,7 @@
 -- The paper's number and values tell every answer apart. Assumes nothing.
 use Prim.Native.Nat.{ℕ, suc, zero}
 use mathlib.Core.Path.{_≡_, refl, sym, ap, _∙_}
-use mathlib.Core.Option.{Option, none, some}
+use mathlib.Core.Option.{Option, Option·getD}
 use mathlib.Core.List.{List, [], _∷_}
 use lib.ListN.{getD, drop}
 use lib.IntN.{ℤ, pos}
@@ -9,14 +9,10 @@ use Rattle.model.specs.Answers.{Answer, Paper, absent, ahead, at-place, 
 use mathlib.Core.Logic.{_≢_}
 
 -- the answer is read back off them
-the-left : Option ℤ → ℤ
-the-left none = pos 0
-the-left (some z) = z
-
 back-from : Option ℤ → ℕ → List ℕ → Answer
 back-from o zero vs = absent
-back-from o (suc zero) vs = fresh (getD vs 0 0) (the-left o)
-back-from o (suc (suc zero)) vs = old (the-left o)
+back-from o (suc zero) vs = fresh (getD vs 0 0) (Option·getD o (pos 0))
+back-from o (suc (suc zero)) vs = old (Option·getD o (pos 0))
 back-from o (suc (suc (suc zero))) vs = ahead
 back-from o (suc (suc (suc (suc zero)))) vs = stored (getD vs 0 0) (getD vs 1 0)
 back-from o (suc (suc (suc (suc (suc zero))))) vs = deleted
@@ -33,7 +29,7 @@ back r = go (r .values)
     go (k ∷ vs) = back-from (r .signed) k vs
 
 read-back : (a : Answer) → back (paper a) ≡ a
-unfolding back back-from the-left
+unfolding back back-from
 read-back (refused n) = refl
 read-back absent = refl
 read-back (fresh v z) = refl

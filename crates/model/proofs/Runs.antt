@@ -3,7 +3,7 @@ use Prim.Native.Nat.{ℕ, _+_, _*_, _<_, _≤_, _-_}
 use native.Mathlib.Omega.{arith}
 use native.Mathlib.Decide.{ℕ-discrete, decLt}
 use mathlib.Core.Path.{_≡_, refl, sym, ap, _∙_}
-use mathlib.Core.Logic.{_≢_, _⊎_, inl, inr, dite}
+use mathlib.Core.Logic.{_≢_, inl, inr, dite}
 use mathlib.Core.Bool.{Bool, true, false}
 use mathlib.Core.Option.{Option, none, some}
 use mathlib.Core.List.{List}
@@ -15,12 +15,12 @@ use Rattle.model.specs.Choice.{choose, range}
 use Rattle.model.specs.Memory.{Mem, animal, permission, stamp}
 use Rattle.model.specs.Shape.{Shape, fresh-memory}
 use Rattle.model.specs.Answers.{Answer, absent, ahead, fresh, old, refused, says-fresh}
-use Rattle.model.specs.Age.{bad-time, judge, standing-mark, time-left}
+use Rattle.model.specs.Age.{bad-time, judge, standing-mark}
 use Rattle.model.specs.Calls.{Outcome, after-call, asked, busy, call, cut-call, held, home-damage, refuse, serve-at, tell}
 use Rattle.model.specs.Row.{row-bad-time, row-call, row-left, row-read, row-says, stay, walk-to}
 use Rattle.model.specs.WellFormed.{WellFormed}
-use Rattle.model.specs.Demands.{Allowed}
-use Rattle.model.proofs.Verdict.{dated-left, standing-left}
+use Rattle.model.specs.Demands.{Allowed, InTime}
+use Rattle.model.proofs.Left.{within}
 use Rattle.model.proofs.RowWords.{left-signed}
 use Rattle.model.proofs.ShapeLaws.{Lawful}
 use Rattle.model.proofs.ListLaws.{First, found, in-range, missing, true-false, walk-is, zeros}
@@ -76,19 +76,16 @@ serve-reads Y m x limit now =
 
 -- fresh is said only of a permission in time
 module _ (l : List ℕ) (x limit now v : ℕ) (z : ℤ) where
-  abbrev pub InTime : ℕ → Type 0
-  InTime s = (s ≡ standing-mark) ⊎ ((s ≤ now) × (now - s ≤ limit))
-
   pub not-fresh : {A : Type 0} (r : Answer) → says-fresh r ≡ false → r ≡ fresh v z → A
   not-fresh r f e = true-false (ap says-fresh e) f
 
   -- what the row says, where it says fresh
-  pub in-time : (u s : ℕ) → row-says limit now u s ≡ fresh v z → (u ≡ v) × InTime s × (z ≡ time-left limit now s)
+  pub in-time : (u s : ℕ) → row-says limit now u s ≡ fresh v z → (u ≡ v) × InTime limit now z s
   unfolding row-says
   in-time u s e =
       dite (ℕ-discrete s standing-mark)
       (λ q. let f : fresh u (pos limit) ≡ fresh v z = rw (eq-eqb s standing-mark q) at e in
-      let g : pos limit ≡ z = cc in (cc, inl q, sym g ∙ sym (standing-left limit now s q)))
+      let g : pos limit ≡ z = cc in (cc, inl (q, sym g)))
       λ nq. dite (decLt now s)
       (λ q. not-fresh ahead refl (rw (ne-eqb s standing-mark nq, lt-ltb now s q) at e))
       λ q. let le : s ≤ now = omega arith in
@@ -96,7 +93,7 @@ module _ (l : List ℕ) (x limit now v : ℕ) (z : ℤ) where
       (λ k. not-fresh (old (row-left limit now s)) refl (rw (ne-eqb s standing-mark nq, le-ltb now s le, lt-ltb limit (now - s) k) at e))
       λ k. let le′ : now - s ≤ limit = omega arith in
       let f : fresh u (row-left limit now s) ≡ fresh v z = rw (ne-eqb s standing-mark nq, le-ltb now s le, le-ltb limit (now - s) le′) at e in
-      let g : row-left limit now s ≡ z = cc in (cc, inr (le, le′), sym g ∙ sym (dated-left limit now s nq ∙ left-signed limit now s le))
+      let g : row-left limit now s ≡ z = cc in (cc, inr (le, le′, sym g ∙ sym (left-signed limit now s le) ∙ within limit (now - s) le′))
 
   found-fresh : (M : ℕ) → x ≢ 0 → {o : Option ℕ} → First (λ p. eqb (animal l p) x) (range 0 M) o
       → row-read M l limit now o ≡ fresh v z → (p : ℕ) × (p < M) × Allowed l x limit now v z p
@@ -105,7 +102,7 @@ module _ (l : List ℕ) (x limit now v : ℕ) (z : ℤ) where
       let j = in-time (permission l p) (stamp l p) e in (
         p,
         omega (arith, in-range 0 M q),
-        record { real = nz; animal-is = eqb-true (animal l p) x t; permission-is = j .0; in-time = j .1; left-is = j .2 },
+        record { real = nz; animal-is = eqb-true (animal l p) x t; permission-is = j .0; in-time = j .1 },
       )
 
   pub row-fresh : (M : ℕ) → row-call M 0 l (read x limit now) .answer ≡ fresh v z → (p : ℕ) × (p < M) × Allowed l x limit now v z p

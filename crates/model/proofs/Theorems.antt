@@ -35,6 +35,7 @@ owed =
       left-least = left.left-least;
       held-tells = verdict.held-tells;
       ahead-tells-nothing = verdict.ahead-tells-nothing;
+      standing-whole = verdict.standing-whole;
       fresh-iff-left = iff.fresh-iff-left;
       leaves-lent = linked.leaves-lent four;
       cuts-lent = linked.cuts-lent four;

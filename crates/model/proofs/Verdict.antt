@@ -2,13 +2,13 @@
 use Prim.Native.Nat.{ℕ, _-_, _%_, _^_, _<_, _≤_}
 use native.Mathlib.Omega.{arith}
 use native.Mathlib.Decide.{ℕ-discrete, decLe}
-use mathlib.Core.Path.{_≡_, refl, sym, ap}
+use mathlib.Core.Path.{_≡_, refl, sym, ap, _∙_}
 use mathlib.Core.Logic.{_≢_, dite, ⊎-elim}
 use lib.IntN.{pos}
 use borrow.Author.Tests.{eq-eqb, le-leb, le-ltb, lt-leb, lt-ltb, ne-eqb}
 use Rattle.model.specs.Answers.{Answer, ahead, fresh, old, paper}
 use Rattle.model.specs.Age.{age, is-fresh, left-of, standing-mark, time-left, verdict}
-use Rattle.model.specs.Left.{AheadTellsNothing, HeldTells}
+use Rattle.model.specs.Left.{AheadTellsNothing, HeldTells, StandingWhole}
 use Rattle.model.proofs.Left.{whole}
 
 module _ (limit now s : ℕ) where
@@ -51,3 +51,6 @@ held-tells limit now v s h =
 
 pub ahead-tells-nothing : AheadTellsNothing
 ahead-tells-nothing limit now v s ne l = sym (says-ahead limit now v s ne l)
+
+pub standing-whole : StandingWhole
+standing-whole limit now v = sym (says-standing limit now v standing-mark refl) ∙ ap (fresh (v % 2 ^ 32)) (standing-left limit now standing-mark refl)

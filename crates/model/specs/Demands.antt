@@ -6,14 +6,14 @@ use mathlib.Core.Bool.{true, false}
 use mathlib.Core.Option.{none, some}
 use mathlib.Core.List.{List, [], _∷_, List·Memᴰ as In}
 use lib.ListN.{length, getD, set}
-use lib.IntN.{ℤ}
+use lib.IntN.{ℤ, pos}
 use Rattle.model.specs.Memory.{Mem, animal, permission, stamp}
 use Rattle.model.specs.Shape.{Shape, pair, second-of, bucket, Home, homes, right-lengths, shape-of, Ways}
 use Rattle.model.specs.Moves.{Move, moved-by, Free, Run}
 use Rattle.model.specs.Visits.{sum-of-powers, visit-list}
 use Rattle.model.specs.Calling.{Call, read, serve, set-animal, Event, make-fresh, did, Typed, AllTyped, about, gone, HasCut}
 use Rattle.model.specs.Answers.{Answer, refused, fresh, stored, started, Listed}
-use Rattle.model.specs.Age.{no-minute, standing-mark, time-left}
+use Rattle.model.specs.Age.{no-minute, standing-mark}
 use Rattle.model.specs.Calls.{hits}
 use Rattle.model.specs.Row.{walk-to, row-event, row-late, row-says, plain, beyond}
 use Rattle.model.specs.declared.Grant.{Grant}
@@ -26,22 +26,24 @@ pub record Demand1 (T : Table) : Type 0 where
   pub unchanged : (m : Mem) (e : Event) (n : ℕ) → T .answer m e ≡ refused n → leaves T m e ≡ m
   pub uncut : (m : Mem) (e : Event) (n : ℕ) → T .answer m e ≡ refused n → (k : ℕ) → cut-at T k m e ≡ m
 
--- in the row l, place p holds animal x with permission v, is standing or within the age limit, and has z minutes left
+-- a stamp s is standing, and z, which is left, is the whole limit; or it is within the age limit, and z is the limit minus the age
+abbrev pub InTime : ℕ → ℕ → ℤ → ℕ → Type 0
+InTime limit now z s = ((s ≡ standing-mark) × (z ≡ pos limit)) ⊎ ((s ≤ now) × (now - s ≤ limit) × (z ≡ pos (limit - (now - s))))
+
+-- in the row l, place p holds animal x with permission v, and is standing or within the age limit, with z minutes left
 pub record Allowed (l : List ℕ) (x limit now v : ℕ) (z : ℤ) (p : ℕ) : Type 0 where
   pub real : x ≢ 0
   pub animal-is : animal l p ≡ x
   pub permission-is : permission l p ≡ v
-  pub in-time : (stamp l p ≡ standing-mark) ⊎ ((stamp l p ≤ now) × (now - stamp l p ≤ limit))
-  pub left-is : z ≡ time-left limit now (stamp l p)
+  pub in-time : InTime limit now z (stamp l p)
 
--- in any item words l, place p holds animal x with permission v modulo 2^32, is standing or within the age limit, and has z minutes left
+-- in any item words l, place p holds animal x with permission v modulo 2^32, and is standing or within the age limit, with z minutes left
 pub record Holds (l : List ℕ) (x limit now v : ℕ) (z : ℤ) (p : ℕ) : Type 0 where
   pub real : x ≢ 0
   pub inside : 4 * p < length l
   pub animal-is : animal l p ≡ x
   pub permission-is : permission l p % 2 ^ 32 ≡ v
-  pub in-time : (stamp l p ≡ standing-mark) ⊎ ((stamp l p ≤ now) × (now - stamp l p ≤ limit))
-  pub left-is : z ≡ time-left limit now (stamp l p)
+  pub in-time : InTime limit now z (stamp l p)
 
 -- Fresh anywhere, beyond the order: on any lent memory, a damaged cabinet's too, fresh is said only of such a place
 abbrev pub FreshAnywhere : Table → Type 0

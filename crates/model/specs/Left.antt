@@ -1,5 +1,5 @@
 -- Wish 4: how long is left, as a signed number; and that fresh is said exactly if it is not negative. Assumes nothing.
-use Prim.Native.Nat.{ℕ, _^_, _<_, _≤_}
+use Prim.Native.Nat.{ℕ, _^_, _%_, _<_, _≤_}
 use mathlib.Core.Path.{_≡_}
 use mathlib.Core.Logic.{_≢_, _↔_, _⊎_}
 use mathlib.Core.Bool.{true}
@@ -8,7 +8,7 @@ use lib.IntN.{ℤ, pos, negℤ, _-ℤ_}
 use lib.Signed.{_≤ℤ_, _<ℤ_}
 use Rattle.model.specs.Memory.{Mem}
 use Rattle.model.specs.Calling.{read, serve, did}
-use Rattle.model.specs.Answers.{Answer, ahead, paper, says-fresh}
+use Rattle.model.specs.Answers.{Answer, ahead, fresh, paper, says-fresh}
 use Rattle.model.specs.Age.{left-of, standing-mark, time-left, verdict}
 use Rattle.model.specs.AnyTable.{Table}
 
@@ -32,6 +32,10 @@ HeldTells = (limit now v s : ℕ) → (s ≡ standing-mark) ⊎ (s ≤ now) → 
 
 abbrev pub AheadTellsNothing : Type 0
 AheadTellsNothing = (limit now v s : ℕ) → s ≢ standing-mark → now < s → verdict limit now v s ≡ ahead
+
+-- a standing entry answers the whole limit
+abbrev pub StandingWhole : Type 0
+StandingWhole = (limit now v : ℕ) → verdict limit now v standing-mark ≡ fresh (v % 2 ^ 32) (pos limit)
 
 -- an answer that tells z says fresh exactly if z is not negative; and z lies between -2^62 and the limit
 pub record Timely (limit : ℕ) (a : Answer) (z : ℤ) : Type 0 where

@@ -12,7 +12,7 @@ use Rattle.model.specs.Answers.{Answer, paper, refused}
 use Rattle.model.specs.Calling.{Call, did, evict, make-fresh}
 use Rattle.model.specs.Lent.{after-fresh, lent-after, lent-call, lent-cut}
 use Rattle.model.specs.Late.{LateRefused, StampsRise}
-use Rattle.model.specs.Left.{AheadTellsNothing, FreshIffLeft, HeldTells, LeftIs, LeftLeast}
+use Rattle.model.specs.Left.{AheadTellsNothing, FreshIffLeft, HeldTells, LeftIs, LeftLeast, StandingWhole}
 use Rattle.model.specs.WellFormed.{WellFormed}
 use Rattle.model.specs.AnyTable.{cut-at, leaves}
 use Rattle.model.specs.Demands.{AgeFromIssue, Demand1, Demand2, Demand3, FreshAnywhere, NeverLost, Story, shape-in, table}
@@ -43,6 +43,7 @@ pub record Owed : Type 0 where
   pub left-least : LeftLeast
   pub held-tells : HeldTells
   pub ahead-tells-nothing : AheadTellsNothing
+  pub standing-whole : StandingWhole
   pub fresh-iff-left : (W : Ways) → FreshIffLeft (ours W)
   -- what the code's contracts cite is what the demands speak of
   pub leaves-lent : (m : Mem) (c : Call) → leaves gate m (did c) ≡ lent-after four m c

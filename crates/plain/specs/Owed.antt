@@ -1,5 +1,5 @@
 -- What is owed of the plain engine: the wish's rule on any items, that it agrees with read, and, beyond the wish, why else the two
--- differ and what fresh means. Assumes nothing.
+-- differ and what fresh means; and wish 4's, how long is left. Assumes nothing.
 use Prim.Native.Nat.{ℕ, _/_, _%_, _^_, _<_, _≤_}
 use mathlib.Core.Path.{_≡_}
 use mathlib.Core.Logic.{_≢_, _⊎_}

@@ -45,7 +45,7 @@ abbrev pub told : Number → Option ℕ
 told (number.Value v) = some v
 told number.Not = none
 
--- one that a signed number can have for its size
+-- none, or a size that a signed number can have
 abbrev pub Small : Option ℕ → Type 0
 Small none = Unit {0}
 Small (some n) = n < 9223372036854775808
