@@ -13,12 +13,12 @@ use mir.Syntax.{w64}
 use mir.Val.{toZ, ofZ, SFits}
 use mir.ValLaws.{toZ-pos, toZ-ofZ}
 use Rattle.model.specs.Answers.{fresh, old}
-use Rattle.model.specs.Age.{bad-grant, bad-time, left-of, no-minute, standing-mark, time-left, verdict}
+use Rattle.model.specs.Age.{age, bad-grant, bad-time, left-of, no-minute, standing-mark, time-left, verdict}
 use Rattle.model.specs.Left.{least-left}
 use Rattle.model.specs.declared.Grant.{Grant}
 use Rattle.model.proofs.ListLaws.{true-false}
 use Rattle.model.proofs.Left.{bounds, far, near}
-use Rattle.model.proofs.Verdict.{dated-left, says-old, says-standing, says-young, standing-left}
+use Rattle.model.proofs.Verdict.{says-old, says-standing, says-young, standing-left}
 
 -- a limit that refusal 3 lets pass
 pub good-limit : (limit now : ℕ) → bad-time limit now ≡ false → limit ≤ 10080
@@ -55,21 +55,26 @@ module _ (limit a : ℕ) (good : limit ≤ 10080) where
   pub left-far : limit + 4611686018427387904 ≤ a → negsuc 4611686018427387903 ≡ left-of limit a
   left-far h = sym (far limit a h)
 
+-- the age of a stamp that is not later than now: where that is the mark, now is the same number, and the age is 0
+age-is : (now s : ℕ) → now < 2 ^ 64 → s ≤ now → now - s ≡ age now s
+unfolding age
+age-is now s fits le = dite (ℕ-discrete s standing-mark) (λ e. rw (eq-eqb s standing-mark e) (omega arith)) λ ne. rw (ne-eqb s standing-mark ne)
+
 -- the ways out of the judgement, as the code has their numbers
 module _ (limit now v s : ℕ) (good : limit ≤ 10080) where
   pub judged-standing : s ≡ standing-mark → fresh (v % 2 ^ 32) (toZ w64 limit) ≡ verdict limit now v s
   judged-standing e =
       ap (fresh (v % 2 ^ 32)) (toZ-pos w64 limit (omega arith) ∙ sym (standing-left limit now s e)) ∙ says-standing limit now v s e
 
-  module _ (ne : s ≢ standing-mark) (le : s ≤ now) {z : ℤ} (e : z ≡ left-of limit (now - s)) where
+  module _ (fits : now < 2 ^ 64) (le : s ≤ now) {z : ℤ} (e : z ≡ left-of limit (now - s)) where
     told : toZ w64 (ofZ w64 z) ≡ time-left limit now s
-    told = kept limit (now - s) good e ∙ sym (dated-left limit now s ne)
+    told = kept limit (now - s) good e ∙ ap (left-of limit) (age-is now s fits le)
 
     pub judged-young : now - s ≤ limit → fresh (v % 2 ^ 32) (toZ w64 (ofZ w64 z)) ≡ verdict limit now v s
-    judged-young k = ap (fresh (v % 2 ^ 32)) told ∙ says-young limit now v s ne le k
+    judged-young k = ap (fresh (v % 2 ^ 32)) told ∙ says-young limit now v s le k
 
     pub judged-old : limit < now - s → old (toZ w64 (ofZ w64 z)) ≡ verdict limit now v s
-    judged-old k = ap old told ∙ says-old limit now v s ne le k
+    judged-old k = ap old told ∙ says-old limit now v s (λ q. absurd (omega arith)) le k
 
 -- the minute behind now: 0 behind the largest number
 pub next-minute : (g : Grant) {n : ℕ} → g .minute < 2 ^ 64 → n ≡ (g .minute + 1) % 2 ^ 64 → leb n (g .issued) ≡ bad-grant g

@@ -25,20 +25,21 @@ fn left_of(limit: u64, age: u64) -> i64
     -4611686018427387904
 }
 
-// What is said of a permission and its stamp. Requires a limit that refusal 3 lets pass.
+// What is said of a permission and its stamp. Requires a limit that refusal 3 lets pass. The mark is later than every minute, so it is
+// looked for only where the stamp is: all others are spared the test.
 pub fn judged(permission: u64, stamp: u64, limit: u64, minute: u64) -> Reading
     requires { ⌜ limit ≤ 10080 ⌝ }
     ensures { λ r. ⌜ said-reading r ≡ verdict limit minute permission stamp ⌝ }
 {
     let told = (permission % 4294967296) as u32;
-    if stamp == 18446744073709551615 {
-        let whole = limit as i64;
-        return Reading::Fresh {
-            permission: told,
-            left: whole,
-        };
-    }
     if minute < stamp {
+        if stamp == 18446744073709551615 {
+            let whole = limit as i64;
+            return Reading::Fresh {
+                permission: told,
+                left: whole,
+            };
+        }
         return Reading::Ahead;
     }
     let age = minute - stamp;

@@ -59,6 +59,22 @@ module _ (W : Ways) (m : Mem) (x : ℕ) (bad : Bool) where
       go true false true eg eb ec f = absurd (omega arith)
       go true false false eg eb ec f = record { lengths = eg; real = eqb-false x 0 eb; timely = ec }
 
+  -- each test by itself, where a call leaves at the first that is due
+  module _ {g : Bool} (e : g ≡ right-lengths W m) where
+    pub due-one : not g ≡ true → (o : Outcome) → asked-now o ≡ refuse 1
+    due-one t = early-outcome (early-one (right-lengths W m) x bad e t) (λ q. absurd (omega (arith, q)))
+
+    module _ (t : not g ≡ false) where
+      pub due-two : x ≡ 0 → (o : Outcome) → asked-now o ≡ refuse 2
+      due-two z = early-outcome (early-two (right-lengths W m) x bad e t z) (λ q. absurd (omega (arith, q)))
+
+      module _ (nz : x ≢ 0) {b : Bool} (eb : b ≡ bad) where
+        pub due-three : b ≡ true → (o : Outcome) → asked-now o ≡ refuse 3
+        due-three y = early-outcome (early-three (right-lengths W m) x bad e t nz (sym eb ∙ y)) (λ q. absurd (omega (arith, q)))
+
+        pub none-due : b ≡ false → Passed W m x bad
+        none-due n = record { lengths = sym e ∙ not-false g t; real = nz; timely = sym eb ∙ n }
+
   -- and then only busy and damage come before the rest
   pub past-early : Passed W m x bad → (o : Outcome)
       → asked-now o ≡ choose (busy (shape-of W m) m x) (refuse 8) (choose (home-damage (shape-of W m) m x) (refuse 4) o)

@@ -51,7 +51,7 @@ module _ (limit : ℕ) where
       λ ne. dite (decLt now s) (λ l. said (says-ahead limit now v s ne l) (untold limit ahead refl))
       λ l. let le : s ≤ now = omega arith in
       let z = dated-left limit now s ne in
-      dite (decLe (now - s) limit) (λ k. said (says-young limit now v s ne le k) (fresh-of (now - s) z k))
+      dite (decLe (now - s) limit) (λ k. said (says-young limit now v s le k) (fresh-of (now - s) z k))
       λ k. let lt : limit < now - s = omega arith in
       said (says-old limit now v s ne le lt) (subst (λ (z : ℤ). TellsTime limit (old z)) (sym z) (told-old (now - s) lt))
     where

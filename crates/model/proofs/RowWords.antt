@@ -43,7 +43,7 @@ says-is limit now v s h =
     λ l. let le : s ≤ now = omega arith in
     let z : time-left limit now s ≡ row-left limit now s = dated-left limit now s ne ∙ left-signed limit now s le in
     dite (decLe (now - s) limit)
-    (λ k. sym (says-young limit now v s ne le k) ∙ rw (ne-eqb s standing-mark ne, le-ltb now s le, le-ltb limit (now - s) k, mod-eq-of-lt h, z))
+    (λ k. sym (says-young limit now v s le k) ∙ rw (ne-eqb s standing-mark ne, le-ltb now s le, le-ltb limit (now - s) k, mod-eq-of-lt h, z))
     λ k. let lt : limit < now - s = omega arith in
     sym (says-old limit now v s ne le lt) ∙ rw (ne-eqb s standing-mark ne, le-ltb now s le, lt-ltb limit (now - s) lt, z)
 

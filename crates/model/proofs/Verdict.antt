@@ -25,26 +25,27 @@ module _ (limit now v s : ℕ) where
   unfolding verdict is-fresh
   says-standing e = rw (eq-eqb s standing-mark e)
 
+  pub says-young : s ≤ now → now - s ≤ limit → fresh (v % 2 ^ 32) (time-left limit now s) ≡ verdict limit now v s
+  unfolding verdict is-fresh
+  says-young le k =
+      dite (ℕ-discrete s standing-mark) (λ e. says-standing e)
+      λ ne. rw (ne-eqb s standing-mark ne, le-leb s now le, le-leb (now - s) limit k)
+
   module _ (ne : s ≢ standing-mark) where
     pub says-ahead : now < s → ahead ≡ verdict limit now v s
     unfolding verdict is-fresh
     says-ahead l = rw (ne-eqb s standing-mark ne, lt-leb s now l, lt-ltb now s l)
 
-    module _ (le : s ≤ now) where
-      pub says-young : now - s ≤ limit → fresh (v % 2 ^ 32) (time-left limit now s) ≡ verdict limit now v s
-      unfolding verdict is-fresh
-      says-young k = rw (ne-eqb s standing-mark ne, le-leb s now le, le-leb (now - s) limit k)
-
-      pub says-old : limit < now - s → old (time-left limit now s) ≡ verdict limit now v s
-      unfolding verdict is-fresh
-      says-old k = rw (ne-eqb s standing-mark ne, le-leb s now le, lt-leb (now - s) limit k, le-ltb now s le)
+    pub says-old : s ≤ now → limit < now - s → old (time-left limit now s) ≡ verdict limit now v s
+    unfolding verdict is-fresh
+    says-old le k = rw (ne-eqb s standing-mark ne, le-leb s now le, lt-leb (now - s) limit k, le-ltb now s le)
 
 -- who tells how long is left, and who tells nothing
 pub held-tells : HeldTells
 held-tells limit now v s h =
     dite (ℕ-discrete s standing-mark) (λ e. tells (says-standing limit now v s e))
     λ ne. let le : s ≤ now = ⊎-elim (λ e. absurd (ne e)) (λ l. l) h in
-    dite (decLe (now - s) limit) (λ k. tells (says-young limit now v s ne le k)) λ k. tells (says-old limit now v s ne le (omega arith))
+    dite (decLe (now - s) limit) (λ k. tells (says-young limit now v s le k)) λ k. tells (says-old limit now v s ne le (omega arith))
   where
     tells : {a : Answer} → a ≡ verdict limit now v s → paper (verdict limit now v s) .signed ≡ paper a .signed
     tells e = ap (λ a. paper a .signed) (sym e)

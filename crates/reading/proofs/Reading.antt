@@ -2,7 +2,7 @@
 use Prim.Native.Nat.{ℕ, _≤_, _%_, _/_}
 use mathlib.Core.Path.{_≡_, sym, ap, _∙_}
 use mathlib.Core.Logic.{_≢_}
-use mathlib.Core.Bool.{Bool, true, false}
+use mathlib.Core.Bool.{Bool, true, false, not}
 use mathlib.Core.Option.{Option}
 use mathlib.Core.List.{List}
 use lib.ListN.{length, getD}
@@ -18,8 +18,8 @@ use Rattle.model.specs.Calls.{Outcome, held, tell}
 use Rattle.model.specs.Lent.{lent-call}
 use Rattle.ageing.proofs.Judging.{good-limit}
 use Rattle.home_words.specs.HomeWords.{found-word, home-words, leads}
-use Rattle.looking.specs.Look.{HomesIn, Passed, early}
-use Rattle.looking.proofs.Early.{early-outcome}
+use Rattle.looking.specs.Look.{HomesIn, Passed}
+use Rattle.looking.proofs.Early.{due-one, due-three, due-two}
 use Rattle.looking.proofs.Looking.{seen-absent, seen-busy, seen-held, seen-damaged}
 use Rattle.hashing.specs.declared.Homes.{Homes}
 use Rattle.model.specs.declared.Reading.{Reading}
@@ -38,9 +38,15 @@ module _ (W : Ways) (m : Mem) (x limit now : ℕ) where
   say : {o : Outcome} → lent-call W m (read x limit now) ≡ o → o .answer ≡ told
   say e = sym (ap (λ (o : Outcome). o .answer) e)
 
-  pub read-early : {b : Bool} {n : ℕ} → b ≡ bad-time limit now → n ≡ early (right-lengths W m) x b → n ≢ 0 → refused n ≡ told
-  read-early {b} {n} eb e nz =
-      say (early-outcome W m x (bad-time limit now) (e ∙ ap (early (right-lengths W m) x) eb) nz (judged (held (shape-of W m) m x)))
+  module _ {g : Bool} (e : g ≡ right-lengths W m) where
+    pub read-one : not g ≡ true → refused 1 ≡ told
+    read-one t = say (due-one W m x (bad-time limit now) e t (judged (held (shape-of W m) m x)))
+
+    pub read-two : not g ≡ false → x ≡ 0 → refused 2 ≡ told
+    read-two t z = say (due-two W m x (bad-time limit now) e t z (judged (held (shape-of W m) m x)))
+
+    pub read-three : not g ≡ false → x ≢ 0 → {b : Bool} → b ≡ bad-time limit now → b ≡ true → refused 3 ≡ told
+    read-three t nz eb y = say (due-three W m x (bad-time limit now) e t nz eb y (judged (held (shape-of W m) m x)))
 
   module _ (p : Passed W m x (bad-time limit now)) {h : Homes} (hs : HomesIn W m x h) {b : Bool} (odd : b ≡ eqb (getD (m .counters) (h .counter) 0 % 2) 1) where
     pub read-busy : b ≡ true → refused 8 ≡ told

@@ -21,8 +21,8 @@ use Rattle.model.specs.Lent.{lent-call}
 use Rattle.model.specs.Promised.{WholeAs}
 use Rattle.model.proofs.RowWords.{fresh-says}
 use Rattle.home_words.specs.HomeWords.{found-word, home-words, leads}
-use Rattle.looking.specs.Look.{HomesIn, Passed, early}
-use Rattle.looking.proofs.Early.{early-outcome}
+use Rattle.looking.specs.Look.{HomesIn, Passed}
+use Rattle.looking.proofs.Early.{due-one, due-three, due-two}
 use Rattle.looking.proofs.Looking.{seen-absent, seen-busy, seen-held, seen-damaged}
 use Rattle.hashing.specs.declared.Homes.{Homes}
 use Rattle.model.specs.declared.Reading.{Reading}
@@ -38,9 +38,15 @@ module _ (W : Ways) (m : Mem) (x limit now : ℕ) where
   only-told : {a : Answer} → lent-call W m the-serve ≡ tell a → WholeAs W m the-serve m a
   only-told e = record { told = sym (ap (λ (o : Outcome). o .answer) e); left = sym (ap (λ (o : Outcome). wholes (o .blocks) m) e) }
 
-  pub serve-early : {b : Bool} {n : ℕ} → b ≡ bad-time limit now → n ≡ early (right-lengths W m) x b → n ≢ 0 → WholeAs W m the-serve m (refused n)
-  serve-early {b} {n} eb e nz =
-      only-told (early-outcome W m x (bad-time limit now) (e ∙ ap (early (right-lengths W m) x) eb) nz (served (held (shape-of W m) m x)))
+  module _ {g : Bool} (e : g ≡ right-lengths W m) where
+    pub serve-one : not g ≡ true → WholeAs W m the-serve m (refused 1)
+    serve-one t = only-told (due-one W m x (bad-time limit now) e t (served (held (shape-of W m) m x)))
+
+    pub serve-two : not g ≡ false → x ≡ 0 → WholeAs W m the-serve m (refused 2)
+    serve-two t z = only-told (due-two W m x (bad-time limit now) e t z (served (held (shape-of W m) m x)))
+
+    pub serve-three : not g ≡ false → x ≢ 0 → {b : Bool} → b ≡ bad-time limit now → b ≡ true → WholeAs W m the-serve m (refused 3)
+    serve-three t nz eb y = only-told (due-three W m x (bad-time limit now) e t nz eb y (served (held (shape-of W m) m x)))
 
   module _ (p : Passed W m x (bad-time limit now)) {h : Homes} (hs : HomesIn W m x h) {b : Bool} (odd : b ≡ eqb (getD (m .counters) (h .counter) 0 % 2) 1) where
     pub serve-busy : b ≡ true → WholeAs W m the-serve m (refused 8)

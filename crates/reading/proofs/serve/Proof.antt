@@ -2,11 +2,12 @@
 use borrow.Author.Needs.{needs}
 use Rattle.reading.proofs.serve.Statement.{statement}
 use Rattle.reading.proofs.serve.Tie as tie
-use Rattle.reading.proofs.Serving.{serve-early}
-use Rattle.looking.proofs.Early.{early-passed}
+use Rattle.reading.proofs.Serving.{serve-one, serve-two, serve-three}
+use Rattle.looking.proofs.Early.{none-due}
 
 pub serve-spec : {M : Type 1} → statement M
 serve-spec =
     tie.close
     (tie.spec
-    (λ c κs. search needs) (λ c κs. search needs) (λ c. search serve-early) (λ c κs. search early-passed) (λ c. search needs) (λ c. search needs))
+    (λ c κs. search needs) (λ c. search serve-one) (λ c. search serve-two) (λ c κs. search needs) (λ c. search serve-three) (λ c κs. search none-due)
+    (λ c. search needs) (λ c. search needs))
