@@ -26,7 +26,7 @@ fn left_of(limit: u64, age: u64) -> i64
 }
 
 // What is said of a permission and its stamp. Requires a limit that refusal 3 lets pass. The mark is later than every minute, so it is
-// looked for only where the stamp is: all others are spared the test.
+// looked for only where the stamp is later than now: no other read pays for the test.
 pub fn judged(permission: u64, stamp: u64, limit: u64, minute: u64) -> Reading
     requires { ⌜ limit ≤ 10080 ⌝ }
     ensures { λ r. ⌜ said-reading r ≡ verdict limit minute permission stamp ⌝ }
