@@ -1,8 +1,6 @@
 -- `pointing::is_doubled_place` meets its contract. Assumes nothing.
-use native.Mathlib.Omega.{arith}
 use Rattle.model.specs.Memory.{mem}
-use Rattle.looking.proofs.Asked.{small}
-use Rattle.pointing.proofs.Pointing.{by-vacant-twin, by-twins}
+use Rattle.pointing.proofs.Pointing.{by-vacant-twin, by-twins, place-fits}
 use borrow.Author.Needs.{needs}
 use Rattle.pointing.proofs.is_doubled_place.Statement.{statement}
 use Rattle.pointing.proofs.is_doubled_place.Tie as tie
@@ -28,7 +26,7 @@ home-words-of-requires c κs = search needs
 cast-twin-among : tie.Need-cast-twin-among
 cast-twin-among c =
     let s = c .before .before .before .before .before .before .before in
-    record { fits = omega (arith, s .pre .1, small (mem (s .args .slots .now) (s .args .counters .now) (s .args .items .now)) (s .pre .0 .aims .right) .places-small) }
+    record { fits = place-fits (mem (s .args .slots .now) (s .args .counters .now) (s .args .items .now)) _ (s .pre .0 .aims .right) (s .pre .1) }
 
 twin-among-requires : tie.Need-twin-among-requires
 twin-among-requires c κs = search needs

@@ -1,7 +1,8 @@
 -- `pointing::is_stray_slot` meets its contract. Assumes nothing.
 use native.Mathlib.Omega.{arith}
 use Rattle.model.specs.Memory.{mem}
-use Rattle.looking.proofs.Asked.{small}
+use Rattle.model.specs.Shape.{four}
+use Rattle.looking.proofs.HomesLie.{buckets-fit}
 use Rattle.pointing.proofs.Pointing.{by-free, by-vacant, by-homes}
 use borrow.Author.Needs.{needs}
 use Rattle.pointing.proofs.is_stray_slot.Statement.{statement}
@@ -34,7 +35,7 @@ homes-in-requires c κs = search needs
 cast-b : tie.Need-cast-b
 cast-b c =
     let s = c .before .before .before .before .before .before .before .before in
-    record { fits = omega (arith, s .pre .1, small (mem (s .args .slots .now) (s .args .counters .now) (s .args .items .now)) (s .pre .0) .slots-small) }
+    record { fits = omega (arith, s .pre .1, buckets-fit four (s .args .slots .now) (s .args .counters .now) (s .args .items .now) (s .pre .0)) }
 
 returns-3 : tie.Need-returns-3
 returns-3 c =

@@ -1,8 +1,6 @@
 -- `pointing::is_unsought_place` meets its contract. Assumes nothing.
-use native.Mathlib.Omega.{arith}
 use Rattle.model.specs.Memory.{mem}
-use Rattle.looking.proofs.Asked.{small}
-use Rattle.pointing.proofs.Pointing.{by-vacant-place, by-pointers}
+use Rattle.pointing.proofs.Pointing.{by-vacant-place, by-pointers, place-fits}
 use borrow.Author.Needs.{needs}
 use Rattle.pointing.proofs.is_unsought_place.Statement.{statement}
 use Rattle.pointing.proofs.is_unsought_place.Tie as tie
@@ -28,7 +26,7 @@ home-words-of-requires c κs = search needs
 cast-pointers : tie.Need-cast-pointers
 cast-pointers c =
     let s = c .before .before .before .before .before .before .before in
-    record { fits = omega (arith, s .pre .1, small (mem (s .args .slots .now) (s .args .counters .now) (s .args .items .now)) (s .pre .0 .right) .places-small) }
+    record { fits = place-fits (mem (s .args .slots .now) (s .args .counters .now) (s .args .items .now)) _ (s .pre .0 .right) (s .pre .1) }
 
 pointers-requires : tie.Need-pointers-requires
 pointers-requires c κs = search needs

@@ -1,5 +1,5 @@
 -- `pointing::twin_among` meets its contract. Assumes nothing.
-use Rattle.pointing.proofs.Pointing.{by-eight}
+use Rattle.home_words.proofs.Words.{by-tests}
 use borrow.Author.Needs.{needs}
 use Rattle.pointing.proofs.twin_among.Statement.{statement}
 use Rattle.pointing.proofs.twin_among.Tie as tie
@@ -29,7 +29,7 @@ leads-to-twin-requires-8 : tie.Need-leads-to-twin-requires-8
 leads-to-twin-requires-8 c κs = search needs
 
 returns : tie.Need-returns
-returns c = search by-eight
+returns c = search by-tests
 
 pub twin-among-spec : {M : Type 1} → statement M
 twin-among-spec =
