@@ -2,12 +2,11 @@
 ghost use mathlib.Core.Path.{_≡_};
 ghost use mathlib.Core.Bool.{not, _&&_};
 ghost use Prim.Native.Nat.{_/_, _%_, _^_};
-ghost use lib.ListN.{length, getD};
+ghost use lib.ListN.{length};
 ghost use lib.Dec.{eqb, leb};
 ghost use Rattle.model.specs.Choice.{first, range};
-ghost use Rattle.model.specs.Memory.{animal, damaged, permission, recent, stamp};
 ghost use Rattle.model.specs.Shape.{four, good-counters, good-items};
-ghost use Rattle.judgement.specs.Conditions.{is-misshapen};
+ghost use Rattle.judgement.specs.Conditions.{is-hurt, is-misshapen, is-uneven, is-unswept, is-wide};
 ghost use Rattle.judgement.specs.Said.{seen};
 use judgement::Breach;
 
@@ -44,7 +43,7 @@ pub fn misshapen_run(s: usize, v: usize, i: usize) -> Breach
 
 // 2: the lowest slot with a damaged word, among m places.
 pub fn damaged_slot(slots: &[u32], m: u32) -> Breach
-    ensures { λ r. ⌜ seen r ≡ first (λ i. damaged m (getD (now (slots .entry)) i 0)) (range 0 (length (now (slots .entry)))) ⌝ }
+    ensures { λ r. ⌜ seen r ≡ first (is-hurt m (now (slots .entry))) (range 0 (length (now (slots .entry)))) ⌝ }
 {
     let mut i: usize = 0;
     while i < slots.len() {
@@ -64,7 +63,7 @@ fn uneven(n: u32) -> bool
 
 // 3: the lowest counter that isn't even.
 pub fn uneven_counter(counters: &[u32]) -> Breach
-    ensures { λ r. ⌜ seen r ≡ first (λ c. not (eqb (getD (now (counters .entry)) c 0 % 2) 0)) (range 0 (length (now (counters .entry)))) ⌝ }
+    ensures { λ r. ⌜ seen r ≡ first (is-uneven (now (counters .entry))) (range 0 (length (now (counters .entry)))) ⌝ }
 {
     let mut c: usize = 0;
     while c < counters.len() {
@@ -84,7 +83,7 @@ fn wide_permission(v: u64) -> bool
 
 // 7: the lowest place whose permission does not fit 32 bits.
 pub fn wide_place(items: &[u64]) -> Breach
-    ensures { λ r. ⌜ seen r ≡ first (λ p. leb (2 ^ 32) (permission (now (items .entry)) p)) (range 0 (length (now (items .entry)) / 4)) ⌝ }
+    ensures { λ r. ⌜ seen r ≡ first (is-wide (now (items .entry))) (range 0 (length (now (items .entry)) / 4)) ⌝ }
 {
     let m = items.len() / 4;
     let mut p: usize = 0;
@@ -105,7 +104,7 @@ fn unswept(a: u64, v: u64, s: u64, r: u64) -> bool
 
 // 8: the lowest vacant place that isn't all zero.
 pub fn unswept_place(items: &[u64]) -> Breach
-    ensures { λ r. ⌜ seen r ≡ first (λ p. eqb (animal (now (items .entry)) p) 0 && not (eqb (permission (now (items .entry)) p) 0 && (eqb (stamp (now (items .entry)) p) 0 && eqb (recent (now (items .entry)) p) 0))) (range 0 (length (now (items .entry)) / 4)) ⌝ }
+    ensures { λ r. ⌜ seen r ≡ first (is-unswept (now (items .entry))) (range 0 (length (now (items .entry)) / 4)) ⌝ }
 {
     let m = items.len() / 4;
     let mut p: usize = 0;

@@ -101,18 +101,16 @@ module _ (Y : Shape) where
 
   module _ (m : Mem) where
     -- each condition, where no slot, counter or place breaks it, holds of every number: outside of a run every word reads 0
-    pub two-holds : first (is-hurt Y m) (range 0 (length (m .slots))) ≡ none → (i : ℕ) → damaged (Y .places) (word m i) ≡ false
-    unfolding is-hurt
+    pub two-holds : first (is-hurt (Y .places) (m .slots)) (range 0 (length (m .slots))) ≡ none → (i : ℕ) → damaged (Y .places) (word m i) ≡ false
     two-holds e i =
-        dite (decLt i (length (m .slots))) (λ h. none-range (is-hurt Y m) (length (m .slots)) e i h)
+        dite (decLt i (length (m .slots))) (λ h. none-range (is-hurt (Y .places) (m .slots)) (length (m .slots)) e i h)
         λ h. rw (outside (m .slots) i (omega arith)) (free-sound Y)
 
-    pub three-holds : first (is-uneven Y m) (range 0 (length (m .counters))) ≡ none → (c : ℕ) → getD (m .counters) c 0 % 2 ≡ 0
-    unfolding is-uneven
+    pub three-holds : first (is-uneven (m .counters)) (range 0 (length (m .counters))) ≡ none → (c : ℕ) → getD (m .counters) c 0 % 2 ≡ 0
     three-holds e c =
         dite (decLt c (length (m .counters)))
         (λ h. eqb-true (getD (m .counters) c 0 % 2) 0 (not-false (eqb (getD (m .counters) c 0 % 2) 0)
-        (none-range (is-uneven Y m) (length (m .counters)) e c h)))
+        (none-range (is-uneven (m .counters)) (length (m .counters)) e c h)))
         λ h. rw (outside (m .counters) c (omega arith))
 
     pub four-holds : first (is-stray Y m) (range 0 (length (m .slots))) ≡ none
@@ -162,19 +160,17 @@ module _ (Y : Shape) where
           (is-twin (m .items) (animal (m .items) p) p q (λ k. ne (sym k)) (sym a)))
           (and-no (none-range (is-doubled Y m) (Y .places) e p (live-inside p h)) (live-yes (m .items) p h))
 
-      pub seven-holds : first (is-wide Y m) (range 0 (Y .places)) ≡ none → (p : ℕ) → permission (m .items) p < 2 ^ 32
-      unfolding is-wide
+      pub seven-holds : first (is-wide (m .items)) (range 0 (Y .places)) ≡ none → (p : ℕ) → permission (m .items) p < 2 ^ 32
       seven-holds e p =
-          dite (decLt p (Y .places)) (λ h. leb-false (2 ^ 32) (permission (m .items) p) (none-range (is-wide Y m) (Y .places) e p h))
+          dite (decLt p (Y .places)) (λ h. leb-false (2 ^ 32) (permission (m .items) p) (none-range (is-wide (m .items)) (Y .places) e p h))
           λ h. rw (outside (m .items) (4 * p + 1) (omega (arith, long))) (omega arith)
 
-      pub eight-holds : first (is-unswept Y m) (range 0 (Y .places)) ≡ none → (p : ℕ) → animal (m .items) p ≡ 0
+      pub eight-holds : first (is-unswept (m .items)) (range 0 (Y .places)) ≡ none → (p : ℕ) → animal (m .items) p ≡ 0
           → (permission (m .items) p ≡ 0) × (stamp (m .items) p ≡ 0) × (recent (m .items) p ≡ 0)
-      unfolding is-unswept
       eight-holds e p z =
           dite (decLt p (Y .places))
           (λ h. let t = not-false (eqb v 0 && (eqb s 0 && eqb r 0))
-          (and-no (none-range (is-unswept Y m) (Y .places) e p h) (eq-eqb (animal (m .items) p) 0 z)) in
+          (and-no (none-range (is-unswept (m .items)) (Y .places) e p h) (eq-eqb (animal (m .items) p) 0 z)) in
           let a = and-is (eqb v 0) (eqb s 0 && eqb r 0) t in
           let b = and-is (eqb s 0) (eqb r 0) (a .1) in
           (eqb-true v 0 (a .0), eqb-true s 0 (b .0), eqb-true r 0 (b .1)))
@@ -195,13 +191,11 @@ module _ (Y : Shape) where
 
     -- and the other way round
     module _ (g : WellFormed Y m) where
-      pub holds-two : first (is-hurt Y m) (range 0 (length (m .slots))) ≡ none
-      unfolding is-hurt
-      holds-two = range-none (is-hurt Y m) (length (m .slots)) (λ i h. g .undamaged i)
+      pub holds-two : first (is-hurt (Y .places) (m .slots)) (range 0 (length (m .slots))) ≡ none
+      holds-two = range-none (is-hurt (Y .places) (m .slots)) (length (m .slots)) (λ i h. g .undamaged i)
 
-      pub holds-three : first (is-uneven Y m) (range 0 (length (m .counters))) ≡ none
-      unfolding is-uneven
-      holds-three = range-none (is-uneven Y m) (length (m .counters)) (λ c h. rw (eq-eqb (getD (m .counters) c 0 % 2) 0 (g .even c)))
+      pub holds-three : first (is-uneven (m .counters)) (range 0 (length (m .counters))) ≡ none
+      holds-three = range-none (is-uneven (m .counters)) (length (m .counters)) (λ c h. rw (eq-eqb (getD (m .counters) c 0 % 2) 0 (g .even c)))
 
       pub holds-four : first (is-stray Y m) (range 0 (length (m .slots))) ≡ none
       unfolding is-stray
@@ -227,13 +221,11 @@ module _ (Y : Shape) where
           (λ u v. let w = twin-is (m .items) (animal (m .items) p) p q v in absurd (w .0 (sym (g .distinct p q (yes-live (m .items) p t) (sym (w .1))))))
           (λ u v. refl) refl)
 
-      pub holds-seven : first (is-wide Y m) (range 0 (Y .places)) ≡ none
-      unfolding is-wide
-      holds-seven = range-none (is-wide Y m) (Y .places) (λ p h. lt-leb (2 ^ 32) (permission (m .items) p) (g .narrow p))
+      pub holds-seven : first (is-wide (m .items)) (range 0 (Y .places)) ≡ none
+      holds-seven = range-none (is-wide (m .items)) (Y .places) (λ p h. lt-leb (2 ^ 32) (permission (m .items) p) (g .narrow p))
 
-      pub holds-eight : first (is-unswept Y m) (range 0 (Y .places)) ≡ none
-      unfolding is-unswept
+      pub holds-eight : first (is-unswept (m .items)) (range 0 (Y .places)) ≡ none
       holds-eight =
-          range-none (is-unswept Y m) (Y .places)
+          range-none (is-unswept (m .items)) (Y .places)
           λ p h. and-not (λ t. let b = g .bare p (eqb-true (animal (m .items) p) 0 t) in
           rw (eq-eqb (permission (m .items) p) 0 (b .0), eq-eqb (stamp (m .items) p) 0 (b .1), eq-eqb (recent (m .items) p) 0 (b .2)))

@@ -25,6 +25,14 @@ twin l x p q = not (eqb q p) && eqb (animal l q) x
 unfoldable pub is-misshapen : Ways → (s v i r : ℕ) → Bool
 is-misshapen W s v i r = getD (not (good-slots W s) ∷ not (good-counters v) ∷ not (good-items i) ∷ []) r false
 
+-- 2: among M places, the word in slot i of T is damaged
+abbrev pub is-hurt : ℕ → List ℕ → ℕ → Bool
+is-hurt M T i = damaged M (getD T i 0)
+
+-- 3: counter c isn't even
+abbrev pub is-uneven : List ℕ → ℕ → Bool
+is-uneven C c = not (eqb (getD C c 0 % 2) 0)
+
 module _ (Y : Shape) where
   -- the word y in slot i is right for x, the animal of its place: x is a number, y has its tag, and the bucket is one of its two
   unfoldable pub right-word : ℕ → ℕ → ℕ → Bool
@@ -32,14 +40,6 @@ module _ (Y : Shape) where
       not (eqb x 0) && (eqb (tag y) (Y .tag-of x) && (eqb (bucket Y i) (Y .first-of x) || eqb (bucket Y i) (second-of Y x)))
 
   module _ (m : Mem) where
-    -- 2: the word in slot i is damaged
-    unfoldable pub is-hurt : ℕ → Bool
-    is-hurt i = damaged (Y .places) (word m i)
-
-    -- 3: counter c isn't even
-    unfoldable pub is-uneven : ℕ → Bool
-    is-uneven c = not (eqb (getD (m .counters) c 0 % 2) 0)
-
     -- 4: slot i is occupied and doesn't point to a live place whose animal has that tag and that bucket as one of its two
     unfoldable pub is-stray : ℕ → Bool
     is-stray i = not (eqb (word m i) 0) && not (right-word (animal (m .items) (place (word m i))) (word m i) i)
@@ -52,15 +52,13 @@ module _ (Y : Shape) where
     unfoldable pub is-doubled : ℕ → Bool
     is-doubled p = live (m .items) p && any (twin (m .items) (animal (m .items) p) p) (range 0 (Y .places))
 
-    -- 7: the permission of place p, live or vacant, doesn't fit 32 bits
-    unfoldable pub is-wide : ℕ → Bool
-    is-wide p = leb (2 ^ 32) (permission (m .items) p)
+-- 7: the permission of place p, live or vacant, doesn't fit 32 bits
+abbrev pub is-wide : List ℕ → ℕ → Bool
+is-wide l p = leb (2 ^ 32) (permission l p)
 
-    -- 8: place p is vacant and not all zero
-    unfoldable pub is-unswept : ℕ → Bool
-    is-unswept p =
-        eqb (animal (m .items) p) 0
-        && not (eqb (permission (m .items) p) 0 && (eqb (stamp (m .items) p) 0 && eqb (recent (m .items) p) 0))
+-- 8: place p is vacant and not all zero
+abbrev pub is-unswept : List ℕ → ℕ → Bool
+is-unswept l p = eqb (animal l p) 0 && not (eqb (permission l p) 0 && (eqb (stamp l p) 0 && eqb (recent l p) 0))
 
 -- a condition: how many things it looks at, and which of them break it
 pub record Condition : Type 0 where
@@ -75,11 +73,11 @@ module _ (W : Ways) (m : Mem) where
   abbrev pub conditions : List Condition
   conditions =
       record { extent = 3; breaks = is-misshapen W (length (m .slots)) (length (m .counters)) (length (m .items)) }
-      ∷ record { extent = length (m .slots); breaks = is-hurt Y m }
-      ∷ record { extent = length (m .counters); breaks = is-uneven Y m }
+      ∷ record { extent = length (m .slots); breaks = is-hurt (Y .places) (m .slots) }
+      ∷ record { extent = length (m .counters); breaks = is-uneven (m .counters) }
       ∷ record { extent = length (m .slots); breaks = is-stray Y m }
       ∷ record { extent = Y .places; breaks = is-unsought Y m }
       ∷ record { extent = Y .places; breaks = is-doubled Y m }
-      ∷ record { extent = Y .places; breaks = is-wide Y m }
-      ∷ record { extent = Y .places; breaks = is-unswept Y m }
+      ∷ record { extent = Y .places; breaks = is-wide (m .items) }
+      ∷ record { extent = Y .places; breaks = is-unswept (m .items) }
       ∷ []

@@ -1,14 +1,14 @@
 -- `inspecting::damaged_slot` meets its contract. Assumes nothing.
 use Prim.Native.Nat.{_-_}
-use lib.ListN.{length, getD}
-use Rattle.model.specs.Memory.{damaged}
+use lib.ListN.{length}
+use Rattle.judgement.specs.Conditions.{is-hurt}
 use Rattle.judgement.proofs.Walk.{Passed, passed-none, by-broken, by-whole, by-end}
 use borrow.Author.Needs.{needs}
 use Rattle.inspecting.proofs.damaged_slot.Statement.{statement}
 use Rattle.inspecting.proofs.damaged_slot.Tie as tie
 
 abbrev Inv-loop : tie.InvT-loop
-Inv-loop slots m i₀ i = Passed (λ j. damaged m (getD slots j 0)) (length slots) i
+Inv-loop slots m i₀ i = Passed (is-hurt m slots) (length slots) i
 
 abbrev μ-loop : tie.MeasureT-loop
 μ-loop slots m i₀ i = length slots - i

@@ -1,15 +1,14 @@
 -- `inspecting::uneven_counter` meets its contract. Assumes nothing.
-use Prim.Native.Nat.{_-_, _%_}
-use mathlib.Core.Bool.{not}
-use lib.ListN.{length, getD}
-use lib.Dec.{eqb}
+use Prim.Native.Nat.{_-_}
+use lib.ListN.{length}
+use Rattle.judgement.specs.Conditions.{is-uneven}
 use Rattle.judgement.proofs.Walk.{Passed, passed-none, by-broken, by-whole, by-end}
 use borrow.Author.Needs.{needs}
 use Rattle.inspecting.proofs.uneven_counter.Statement.{statement}
 use Rattle.inspecting.proofs.uneven_counter.Tie as tie
 
 abbrev Inv-loop : tie.InvT-loop
-Inv-loop counters c₀ c = Passed (λ j. not (eqb (getD counters j 0 % 2) 0)) (length counters) c
+Inv-loop counters c₀ c = Passed (is-uneven counters) (length counters) c
 
 abbrev μ-loop : tie.MeasureT-loop
 μ-loop counters c₀ c = length counters - c

@@ -1,16 +1,14 @@
 -- `inspecting::unswept_place` meets its contract. Assumes nothing.
 use Prim.Native.Nat.{_-_, _/_}
-use mathlib.Core.Bool.{not, _&&_}
 use lib.ListN.{length}
-use lib.Dec.{eqb}
-use Rattle.model.specs.Memory.{animal, permission, stamp, recent}
+use Rattle.judgement.specs.Conditions.{is-unswept}
 use Rattle.judgement.proofs.Walk.{Passed, passed-none, by-broken, by-whole, by-end}
 use borrow.Author.Needs.{needs}
 use Rattle.inspecting.proofs.unswept_place.Statement.{statement}
 use Rattle.inspecting.proofs.unswept_place.Tie as tie
 
 abbrev Inv-loop : tie.InvT-loop
-Inv-loop items m p₀ p = Passed (λ q. eqb (animal items q) 0 && not (eqb (permission items q) 0 && (eqb (stamp items q) 0 && eqb (recent items q) 0))) (length items / 4) p
+Inv-loop items m p₀ p = Passed (is-unswept items) (length items / 4) p
 
 abbrev μ-loop : tie.MeasureT-loop
 μ-loop items m p₀ p = length items / 4 - p

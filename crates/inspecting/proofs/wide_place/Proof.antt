@@ -1,15 +1,14 @@
 -- `inspecting::wide_place` meets its contract. Assumes nothing.
-use Prim.Native.Nat.{_-_, _/_, _^_}
+use Prim.Native.Nat.{_-_, _/_}
 use lib.ListN.{length}
-use lib.Dec.{leb}
-use Rattle.model.specs.Memory.{permission}
+use Rattle.judgement.specs.Conditions.{is-wide}
 use Rattle.judgement.proofs.Walk.{Passed, passed-none, by-broken, by-whole, by-end}
 use borrow.Author.Needs.{needs}
 use Rattle.inspecting.proofs.wide_place.Statement.{statement}
 use Rattle.inspecting.proofs.wide_place.Tie as tie
 
 abbrev Inv-loop : tie.InvT-loop
-Inv-loop items m p₀ p = Passed (λ q. leb (2 ^ 32) (permission items q)) (length items / 4) p
+Inv-loop items m p₀ p = Passed (is-wide items) (length items / 4) p
 
 abbrev μ-loop : tie.MeasureT-loop
 μ-loop items m p₀ p = length items / 4 - p

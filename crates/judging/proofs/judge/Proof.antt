@@ -1,7 +1,8 @@
 -- `judging::judge` meets its contract. Assumes nothing.
 use native.Mathlib.Omega.{arith}
 use Rattle.model.specs.Memory.{mem}
-use Rattle.looking.proofs.Asked.{small}
+use Rattle.model.specs.Shape.{four}
+use Rattle.model.proofs.Lent.{fit}
 use Rattle.judging.proofs.InTurn.{right-now, aimed-now, sought-now, by-one, by-two, by-three, by-four, by-five, by-six, by-seven, by-eight, by-sound}
 use borrow.Author.Needs.{needs}
 use Rattle.judging.proofs.judge.Statement.{statement}
@@ -24,7 +25,7 @@ cast-damaged-slot c =
     let f = c .before .before in
     let s = f .before .before .before .before in
     let right = right-now (mem (s .args .slots .now) (s .args .counters .now) (s .args .items .now)) (f .misshapen-run .ensures) (c .enum-told .given .1) in
-    record { fits = omega (arith, small (mem (s .args .slots .now) (s .args .counters .now) (s .args .items .now)) right .places-small) }
+    record { fits = omega (arith, fit four (mem (s .args .slots .now) (s .args .counters .now) (s .args .items .now)) right .few) }
 
 damaged-slot-requires : tie.Need-damaged-slot-requires
 damaged-slot-requires c κs = search needs
