@@ -35,7 +35,7 @@ pub fn show_call(
 pub fn unheard(row: usize) -> u64
     ensures { λ r. ⌜ (r ≡ is-unheard row) × (r ≤ 1) ⌝ }
 {
-    if row < 19 {
+    if row < 20 {
         return 0;
     }
     1

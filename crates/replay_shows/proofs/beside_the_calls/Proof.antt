@@ -1,5 +1,5 @@
 -- `replay_shows::beside_the_calls` meets its contract. Assumes nothing.
-use Rattle.replay_shows.proofs.Beside.{as-hand, as-list, as-poke-slots, as-poke-counters, as-poke-items, as-dump, as-blank, as-plain, as-not-understood}
+use Rattle.replay_shows.proofs.Beside.{as-hand, as-list, as-poke-slots, as-poke-counters, as-poke-items, as-dump, as-blank, as-plain, as-judge, as-not-understood}
 use borrow.Author.Needs.{needs}
 use Rattle.replay_shows.proofs.beside_the_calls.Statement.{statement}
 use Rattle.replay_shows.proofs.beside_the_calls.Tie as tie
