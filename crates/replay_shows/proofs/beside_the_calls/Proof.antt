@@ -9,9 +9,11 @@ beside-the-calls-spec =
     tie.close
     (tie.spec
     (λ c. search needs) (λ c. search needs) (λ c. search needs) (λ c. search needs) (λ c κs. search needs) (λ c κs. search needs)
-    (λ c κs. search needs) (λ c κs. search needs) (λ c κs. search needs) (λ c κs. search needs) (λ c κs. search needs) (λ c κs. search needs)
-    (λ c κs. search needs) (λ c κs. search needs) (λ c κs. search needs) (λ c. search needs) (λ c. search as-hand) (λ c. search needs)
-    (λ c. search needs) (λ c. search needs) (λ c. search needs) (λ c. search needs) (λ c. search as-list) (λ c. search needs) (λ c. search needs)
-    (λ c. search as-poke-slots) (λ c. search needs) (λ c. search needs) (λ c. search as-poke-counters) (λ c. search needs) (λ c. search needs)
-    (λ c. search as-poke-items) (λ c. search needs) (λ c. search needs) (λ c. search needs) (λ c. search needs) (λ c. search as-dump)
-    (λ c. search needs) (λ c. search needs) (λ c. search as-plain) (λ c. search as-blank) (λ c. search needs) (λ c. search as-not-understood))
+    (λ c κs. search needs) (λ c κs. search needs) (λ c κs. search needs) (λ c κs. search needs) (λ c κs. search needs)
+    (λ c κs. search needs) (λ c κs. search needs) (λ c κs. search needs) (λ c κs. search needs) (λ c κs. search needs) (λ c. search needs)
+    (λ c. search as-hand) (λ c. search needs) (λ c. search needs) (λ c. search needs) (λ c. search needs) (λ c. search needs)
+    (λ c. search as-list) (λ c. search needs) (λ c. search needs) (λ c. search as-poke-slots) (λ c. search needs) (λ c. search needs)
+    (λ c. search as-poke-counters) (λ c. search needs) (λ c. search needs) (λ c. search as-poke-items) (λ c. search needs)
+    (λ c. search needs) (λ c. search needs) (λ c. search needs) (λ c. search as-dump) (λ c. search needs) (λ c. search needs)
+    (λ c. search as-plain) (λ c. search needs) (λ c. search needs) (λ c. search needs) (λ c. search needs) (λ c. search as-judge)
+    (λ c. search as-blank) (λ c. search needs) (λ c. search as-not-understood))
