@@ -13,4 +13,4 @@ use Rattle.judgement.specs.Examples.{verdicts}
 -- a refl for each row: where the definition says another thing, the first error is at the first row that is false
 pub all-hold : AllHold verdicts
 unfolding judgement count names twin right-word is-stray is-unsought is-doubled is-misshapen first range tag place damaged hash fnv fnv-step bytes tag-from other-bucket spread odd-up good-slots good-counters good-items
-all-hold = (refl, (refl, (refl, (refl, (refl, (refl, (refl, (refl, (refl, (refl, (refl, (refl, (refl, (refl, (refl, (refl, (refl, (refl, (refl, (refl, (refl, (refl, (refl, (refl, tt))))))))))))))))))))))))
+all-hold = (refl, (refl, (refl, (refl, (refl, (refl, (refl, (refl, (refl, (refl, (refl, (refl, (refl, (refl, (refl, (refl, (refl, (refl, (refl, (refl, (refl, (refl, (refl, (refl, (refl, tt)))))))))))))))))))))))))

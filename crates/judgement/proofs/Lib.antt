@@ -4,10 +4,11 @@ pub mod AsWritten
 pub mod Counting
 pub mod Conditions
 pub mod AtHome
--- The verdict: in turn, yes and no, any judge, what a yes is worth
+-- The verdict: in turn, yes and no, any judge, wrong ones, what a yes is worth
 pub mod InTurn
 pub mod Sound
 pub mod Judges
+pub mod Refuted
 pub mod FromThenOn
 -- A walk of the code to the first that breaks a condition; its outcomes
 pub mod Walk

@@ -40,8 +40,9 @@ verdicts =
     ∷ record { says = judged (4128768 ∷ 4063232 ∷ 13107202 ∷ 0 ∷ 0 ∷ 0 ∷ 0 ∷ 0 ∷ []) (0 ∷ 3 ∷ []) (1 ∷ 7 ∷ 100 ∷ 1 ∷ 0 ∷ 0 ∷ 0 ∷ 0 ∷ 5 ∷ 7 ∷ 100 ∷ 1 ∷ 0 ∷ 0 ∷ 0 ∷ 0 ∷ []); document = 3 ∷ 1 ∷ [] }
     -- 4: another tag, and so place 0 is not pointed to: 4 is told
     ∷ record { says = judged (0 ∷ 4128768 ∷ 13107202 ∷ 0 ∷ 0 ∷ 0 ∷ 0 ∷ 0 ∷ []) (0 ∷ 0 ∷ []) (1 ∷ 7 ∷ 100 ∷ 1 ∷ 0 ∷ 0 ∷ 0 ∷ 0 ∷ 5 ∷ 7 ∷ 100 ∷ 1 ∷ 0 ∷ 0 ∷ 0 ∷ 0 ∷ []); document = 4 ∷ 1 ∷ [] }
-    -- a vacant place
+    -- a vacant place; the tag of number 0 is no better
     ∷ record { says = judged (0 ∷ 4063232 ∷ 13107202 ∷ 0 ∷ 0 ∷ 0 ∷ 13107203 ∷ 0 ∷ []) (0 ∷ 0 ∷ []) (1 ∷ 7 ∷ 100 ∷ 1 ∷ 0 ∷ 0 ∷ 0 ∷ 0 ∷ 5 ∷ 7 ∷ 100 ∷ 1 ∷ 0 ∷ 0 ∷ 0 ∷ 0 ∷ []); document = 4 ∷ 6 ∷ [] }
+    ∷ record { says = judged (0 ∷ 4063232 ∷ 13107202 ∷ 0 ∷ 0 ∷ 0 ∷ 10158083 ∷ 0 ∷ []) (0 ∷ 0 ∷ []) (1 ∷ 7 ∷ 100 ∷ 1 ∷ 0 ∷ 0 ∷ 0 ∷ 0 ∷ 5 ∷ 7 ∷ 100 ∷ 1 ∷ 0 ∷ 0 ∷ 0 ∷ 0 ∷ []); document = 4 ∷ 6 ∷ [] }
     -- four buckets: animal 1 has buckets 0 and 3, and stands in bucket 1, or in bucket 3
     ∷ record { says = judged (0 ∷ 0 ∷ 0 ∷ 0 ∷ 4063232 ∷ 0 ∷ 0 ∷ 0 ∷ 0 ∷ 0 ∷ 0 ∷ 0 ∷ 0 ∷ 0 ∷ 0 ∷ 0 ∷ []) (0 ∷ []) (1 ∷ 7 ∷ 100 ∷ 1 ∷ []); document = 4 ∷ 4 ∷ [] }
     ∷ record { says = judged (0 ∷ 0 ∷ 0 ∷ 0 ∷ 0 ∷ 0 ∷ 0 ∷ 0 ∷ 0 ∷ 0 ∷ 0 ∷ 0 ∷ 4063232 ∷ 0 ∷ 0 ∷ 0 ∷ []) (0 ∷ []) (1 ∷ 7 ∷ 100 ∷ 1 ∷ []); document = 0 ∷ [] }

@@ -36,3 +36,8 @@ module _ (Y : Shape) (m : Mem) where
 
   abbrev pub DoubledIff : Type 0
   DoubledIff = (p : ℕ) → (is-doubled Y m p ≡ true) ↔ (Live (m .items) p × ((q : ℕ) × (q ≢ p) × (animal (m .items) q ≡ animal (m .items) p)))
+
+-- a verdict that tells 0 as the lowest number, always
+abbrev pub numbered-0 : Verdict → Verdict
+numbered-0 sound = sound
+numbered-0 (broken c i) = broken c 0

@@ -13,7 +13,7 @@ use Rattle.model.specs.Ours.{ours}
 use Rattle.model.specs.Examples.{AllHold}
 use Rattle.judgement.specs.Conditions.{count, names, twin}
 use Rattle.judgement.specs.Verdict.{Verdict, broken, judgement, sound, FirstBroken}
-use Rattle.judgement.specs.Judges.{Good, Judges, OursPass, DoubledIff, StrayIff, UnsoughtIff}
+use Rattle.judgement.specs.Judges.{Good, Judges, OursPass, DoubledIff, StrayIff, UnsoughtIff, numbered-0}
 use Rattle.judgement.specs.FromThenOn.{SoundThenDemands}
 use Rattle.judgement.specs.Said.{said}
 use Rattle.judgement.specs.Examples.{verdicts}
@@ -45,6 +45,10 @@ pub record Owed : Type 0 where
   pub broken-first : (W : Ways) (m : Mem) (c i : ℕ) → judgement W m ≡ broken c i → FirstBroken W m c i
   -- so no judge can say anything else, on any memory
   pub one-judge : (W : Ways) (J : Mem → Verdict) → Judges W J → (m : Mem) → J m ≡ judgement W m
+  -- wrong judges: a yes to all, a no to all, and 0 told as the lowest always
+  pub yes-to-all : ¬ Judges four (λ m. sound)
+  pub no-to-all : (c i : ℕ) → ¬ Judges four (λ m. broken c i)
+  pub number-0-always : ¬ Judges four (λ m. numbered-0 (judgement four m))
   -- whatever our own finished calls leave, from a fresh table on, gets a yes, four ways and eight
   pub ours-sound : OursPass four (judgement four)
   pub eight-sound : OursPass eight (judgement eight)
