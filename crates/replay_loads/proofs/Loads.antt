@@ -78,22 +78,22 @@ module _ {line : List ℕ} {top from at n : ℕ} {w : Word} (s : Weighing line t
       let z : n ≡ n + 0 = omega arith in
       ap weights.Words z ∙ sym q ∙ s .ahead
 
-  module _ (ne : w .start ≢ w .end) {r : Number} (e : number-told r ≡ number top (part line (w .start) (w .end))) where
-    step : {o : Option ℕ} → o ≡ number-told r → weight (weighed top (words (drop from line)))
+  module _ (ne : w .start ≢ w .end) where
+    step : {o : Option ℕ} → o ≡ number top (part line (w .start) (w .end)) → weight (weighed top (words (drop from line)))
         ≡ weight-behind n (in-front top (part line (w .start) (w .end)) o (weighed top (words (drop (w .end) line))))
     unfolding weighed
-    step {o} q = sym (s .ahead) ∙ rw (next .next-word ne, q ∙ e)
+    step {o} q = sym (s .ahead) ∙ rw (next .next-word ne, q)
 
-    pub weigh-bad : {y : ℕ} → r ≡ number.Not → y ≡ instead (some top) (part line (w .start) (w .end)) → weights.Bad y ≡ weight (weighed top (words (drop from line)))
-    weigh-bad q f = ap weights.Bad f ∙ sym (step (sym (ap number-told q)))
+    pub weigh-bad : {r : Number} {y : ℕ} → number-told r ≡ number top (part line (w .start) (w .end)) → r ≡ number.Not → y ≡ instead (some top) (part line (w .start) (w .end)) → weights.Bad y ≡ weight (weighed top (words (drop from line)))
+    weigh-bad e q f = ap weights.Bad f ∙ sym (step (sym (ap number-told q) ∙ e))
 
-    pub weigh-more : {v : ℕ} → r ≡ number.Value v → Weighing line top from (w .end) (n + 1)
-    weigh-more {v} q =
+    pub weigh-more : {r : Number} {v : ℕ} → number-told r ≡ number top (part line (w .start) (w .end)) → r ≡ number.Value v → Weighing line top from (w .end) (n + 1)
+    weigh-more {r} {v} e q =
         let moved : w .start < w .end = omega (arith, next .forward) in
         record {
           inside = next .inside;
           few = omega (arith, s .few, next .onward);
-          ahead = sym (step (sym (ap number-told q)) ∙ weight-more top n v (part line (w .start) (w .end)) (weighed top (words (drop (w .end) line))));
+          ahead = sym (step (sym (ap number-told q) ∙ e) ∙ weight-more top n v (part line (w .start) (w .end)) (weighed top (words (drop (w .end) line))));
         }
 
 -- a number of a word is at most its top
@@ -111,8 +111,8 @@ unfolding number
 small top [] e = let z : _≡_ {A = ℕ} 0 1 = cc in absurd (omega arith)
 small top (d ∷ ds) e = small-from top (d ∷ ds) e
 
-pub word-fits : (top : ℕ) (w : List ℕ) {r : Number} {n : ℕ} → number-told r ≡ number top w → r ≡ number.Value n → n ≤ top
-word-fits top w e q = small top w (sym e ∙ ap number-told q)
+pub word-fits : (w : List ℕ) {r : Number} {n : ℕ} → number-told r ≡ number 4294967295 w → r ≡ number.Value n → n < 4294967296
+word-fits w e q = omega (arith, small 4294967295 w (sym e ∙ ap number-told q))
 
 -- an array with words stored from i on, if they are good
 abbrev pub pouring : List ℕ → ℕ → Weighed → Option (List ℕ)
@@ -149,17 +149,18 @@ module _ {line : List ℕ} {top from at i : ℕ} {before now : List ℕ} {w : Wo
       let q : pouring now i (weighed top (words (drop at line))) ≡ some now = rw (next .none-left e) in
       poured-all (sym q ∙ s .ahead)
 
-  module _ (ne : w .start ≢ w .end) {r : Number} (e : number-told r ≡ number top (part line (w .start) (w .end))) where
-    pour-step : {o : Option ℕ} → o ≡ number-told r → pouring before 0 (weighed top (words (drop from line)))
+  module _ (ne : w .start ≢ w .end) where
+    pour-step : {o : Option ℕ} → o ≡ number top (part line (w .start) (w .end)) → pouring before 0 (weighed top (words (drop from line)))
         ≡ pouring now i (in-front top (part line (w .start) (w .end)) o (weighed top (words (drop (w .end) line))))
     unfolding weighed
-    pour-step {o} q = sym (s .ahead) ∙ rw (next .next-word ne, q ∙ e)
+    pour-step {o} q = sym (s .ahead) ∙ rw (next .next-word ne, q)
 
-    pub pour-stop : r ≡ number.Not → Poured (weighed top (words (drop from line))) before now
-    pour-stop q = poured-none (sym (pour-step (sym (ap number-told q))))
+    pub pour-stop : {r : Number} → number-told r ≡ number top (part line (w .start) (w .end)) → r ≡ number.Not
+        → Poured (weighed top (words (drop from line))) before now
+    pour-stop e q = poured-none (sym (pour-step (sym (ap number-told q) ∙ e)))
 
-    pub pour-more : {v : ℕ} {after : List ℕ} → r ≡ number.Value v → after ≡ set now i v → Pouring line top from before after (w .end) (i + 1)
-    pour-more {v} {after} q f =
+    pub pour-more : {r : Number} {v : ℕ} {after : List ℕ} → number-told r ≡ number top (part line (w .start) (w .end)) → r ≡ number.Value v → after ≡ set now i v → Pouring line top from before after (w .end) (i + 1)
+    pour-more {r} {v} {after} e q f =
         let moved : w .start < w .end = omega (arith, next .forward) in
         let rest = weighed top (words (drop (w .end) line)) in
         record {
@@ -167,7 +168,7 @@ module _ {line : List ℕ} {top from at i : ℕ} {before now : List ℕ} {w : Wo
           few = omega (arith, s .few, next .onward);
           long = ap length f ∙ length-set now i v ∙ s .long;
           ahead = ap (λ (l : List ℕ). pouring l (i + 1) rest) f
-              ∙ sym (pour-step (sym (ap number-told q)) ∙ pouring-more now (part line (w .start) (w .end)) top i v rest);
+              ∙ sym (pour-step (sym (ap number-told q) ∙ e) ∙ pouring-more now (part line (w .start) (w .end)) top i v rest);
         }
 
 -- what a line says, and its first word
@@ -199,9 +200,6 @@ module _ {line : List ℕ} {n : Name} (b : BehindName line n) where
 
   abbrev rest : List (List ℕ)
   rest = words (drop (n .end) (take (n .length) line))
-
-  pub end-inside : n .end ≤ length (take (n .length) line)
-  end-inside = b .first-word .inside
 
   unnamed : n .start ≡ n .end → loading line ≡ other
   unfolding loading load-of

@@ -169,7 +169,11 @@ fn pour_from64(line: &[u8], from: usize, run: &mut [u64])
 pub fn pour32(line: &[u8], run: &mut [u32])
     ensures { λ _. ⌜ PouredLine 4294967295 (now (line .entry)) (now (run .entry)) (now (run .exit)) ⌝ }
 {
-    let Name { start: _, end, length } = name_of(line);
+    let Name {
+        start: _,
+        end,
+        length,
+    } = name_of(line);
     pour_from32(&line[..length], end, run);
 }
 
@@ -177,6 +181,10 @@ pub fn pour32(line: &[u8], run: &mut [u32])
 pub fn pour64(line: &[u8], run: &mut [u64])
     ensures { λ _. ⌜ PouredLine 18446744073709551615 (now (line .entry)) (now (run .entry)) (now (run .exit)) ⌝ }
 {
-    let Name { start: _, end, length } = name_of(line);
+    let Name {
+        start: _,
+        end,
+        length,
+    } = name_of(line);
     pour_from64(&line[..length], end, run);
 }
