@@ -8,7 +8,7 @@ use mathlib.Core.Bool.{Bool, true, false}
 use mathlib.Core.Option.{Option, none, some}
 use mathlib.Core.List.{List, [], _∷_}
 use lib.ListN.{length, drop, length-set, set, take}
-use lib.Seq.{length-take-le, sets}
+use lib.Seq.{sets, sets-eq, take-at}
 use lib.Dec.{eqb, leb}
 use borrow.Author.Tests.{eq-eqb, eqb-false, eqb-true, leb-true, ne-eqb}
 use Rattle.model.specs.Choice.{choose}
@@ -246,3 +246,31 @@ module _ {line : List ℕ} {n : Name} (b : BehindName line n) where
 
   pub poured-line : (top : ℕ) {before after : List ℕ} → Poured (weighed top rest) before after → PouredLine top line before after
   poured-line top p = record { poured = λ r ws l t. p .poured ws (rest-good top r ws l t) }
+
+-- what a line loads, by what the code says of it
+pub is-other : (x : Load) {m : Measured} → m ≡ measured x → m ≡ measures.Other → x ≡ other
+is-other other e q = refl
+is-other (faulty y) e q = let z : _≡_ {A = ℕ} 0 1 = cc in absurd (omega arith)
+is-other (loads r ws) e q = let z : _≡_ {A = ℕ} 0 1 = cc in absurd (omega arith)
+
+pub is-faulty : (x : Load) {m : Measured} {y : ℕ} → m ≡ measured x → m ≡ measures.Faulty y → x ≡ faulty y
+is-faulty other e q = let z : _≡_ {A = ℕ} 0 1 = cc in absurd (omega arith)
+is-faulty (faulty y) e q = cc
+is-faulty (loads r ws) e q = let z : _≡_ {A = ℕ} 0 1 = cc in absurd (omega arith)
+
+-- a run, and as many words as were counted
+pub record Counted (x : Load) (r n : ℕ) : Type 0 where
+  pub ws : List ℕ
+  pub loads-them : x ≡ loads r ws
+  pub count : n ≡ length ws
+
+pub is-load : (x : Load) {r n : ℕ} → measures.Loads r n ≡ measured x → Counted x r n
+is-load other e = let z : _≡_ {A = ℕ} 0 1 = cc in absurd (omega arith)
+is-load (faulty y) e = let z : _≡_ {A = ℕ} 0 1 = cc in absurd (omega arith)
+is-load (loads r ws) e = record { ws = ws; loads-them = cc; count = cc }
+
+-- the words stand in front
+pub poured-front : (ws run : List ℕ) (n : ℕ) → n ≡ length ws → n ≤ length run → take n (sets run 0 ws) ≡ ws
+poured-front ws run n e h =
+    let short : 0 + length ws ≤ length run = omega arith in
+    ap (take n) (sets-eq ws run 0 short) ∙ take-at ws (drop (0 + length ws) run) n (sym e)
