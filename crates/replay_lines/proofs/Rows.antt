@@ -8,7 +8,7 @@ use mathlib.Core.Bool.{Bool, true, false}
 use mathlib.Core.Option.{Option, none, some}
 use mathlib.Core.List.{List, [], _∷_}
 use lib.ListN.{length, drop, drop-of-length-le, getD, length-replicate, replicate, set, take}
-use lib.Seq.{length-take-le, sets, take-length}
+use lib.Seq.{length-take-le, sets, take-length, take-take}
 use borrow.Author.Tests.{eq-eqb, ne-eqb}
 use Rattle.model.specs.Choice.{choose}
 use Rattle.replay_words.specs.Words.{before, is-comment, lines, without-comment, without-return, words}
@@ -17,7 +17,7 @@ use Rattle.replay_words.specs.declared.Piece.{Piece}
 use Rattle.replay_words.proofs.Scan.{before-take}
 use Rattle.replay_lines.specs.Reasons.{why-not}
 use Rattle.replay_lines.specs.Line.{Said, first-row, fitting, or-else, padded, said, said-by}
-use Rattle.replay_lines.specs.Cursor.{Fits, Follows, WithoutReturn, stored}
+use Rattle.replay_lines.specs.Cursor.{Body, Fits, Follows, WithoutReturn, stored}
 
 -- the rows up to from do not fit, and they are n
 pub record Trying (rows line before now : List ℕ) (from n : ℕ) : Type 0 where
@@ -104,13 +104,23 @@ pub cut-length : (bs : List ℕ) (n : ℕ) → n ≤ length bs → n ≡ length 
 cut-length bs n h = sym (length-take-le n bs h)
 
 -- a line is the words before its comment and its line end
-pub by-line : (rows : List ℕ) {bs numbers after : List ℕ} {n m r : ℕ} → WithoutReturn bs n → First is-comment (take n bs) 0 m
-    → Follows (said-by (lines rows) (words (take m (take n bs)))) numbers after r
-    → (r ≡ said rows bs .row) × (after ≡ padded (length numbers) (said rows bs .numbers))
-unfolding said without-comment
-by-line rows {bs} {numbers} {after} {n} {m} w c f =
+pub body-is : {bs : List ℕ} {n m : ℕ} → WithoutReturn bs n → First is-comment (take n bs) 0 m → Body bs m
+unfolding without-comment
+body-is {bs} {n} {m} w c =
     let q : m ≡ length (before is-comment (take n bs)) = omega (arith, c .first) in
-    let e : take m (take n bs) ≡ without-comment (without-return bs) =
-    ap (λ (k : ℕ). take k (take n bs)) q ∙ before-take is-comment (take n bs) ∙ ap (before is-comment) (w .kept) in
-    let g : said-by (lines rows) (words (take m (take n bs))) ≡ said rows bs = ap (λ (l : List ℕ). said-by (lines rows) (words l)) e in
-    (f .same-row ∙ ap (λ (x : Said). x .row) g, f .same-numbers ∙ ap (λ (x : Said). padded (length numbers) (x .numbers)) g)
+    let h : m ≤ n = omega (arith, c .inside, length-take-le n bs (w .inside)) in
+    record {
+      kept = sym (take-take m n bs h) ∙ ap (λ (k : ℕ). take k (take n bs)) q ∙ before-take is-comment (take n bs) ∙ ap (before is-comment) (w .kept);
+      inside = omega (arith, w .inside);
+    }
+
+module _ (rows : List ℕ) {bs numbers after : List ℕ} {n r : ℕ} (b : Body bs n) (f : Follows (said-by (lines rows) (words (take n bs))) numbers after r) where
+  by-line : said-by (lines rows) (words (take n bs)) ≡ said rows bs
+  unfolding said
+  by-line = ap (λ (l : List ℕ). said-by (lines rows) (words l)) (b .kept)
+
+  pub row-by-line : r ≡ said rows bs .row
+  row-by-line = f .same-row ∙ ap (λ (x : Said). x .row) by-line
+
+  pub numbers-by-line : after ≡ padded (length numbers) (said rows bs .numbers)
+  numbers-by-line = f .same-numbers ∙ ap (λ (x : Said). padded (length numbers) (x .numbers)) by-line

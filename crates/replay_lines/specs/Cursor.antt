@@ -7,7 +7,7 @@ use mathlib.Core.List.{List, [], _∷_}
 use lib.ListN.{length, take}
 use lib.Seq.{sets}
 use Rattle.model.specs.Choice.{choose}
-use Rattle.replay_words.specs.Words.{without-return, words}
+use Rattle.replay_words.specs.Words.{without-comment, without-return, words}
 use Rattle.replay_lines.specs.Reasons.{Parting}
 use Rattle.replay_lines.specs.Line.{Said, fitting, padded}
 use Rattle.replay_lines.specs.declared.Parting.{Parting as Parted}
@@ -42,4 +42,9 @@ pub record Follows (s : Said) (before after : List ℕ) (r : ℕ) : Type 0 where
 -- the length of a line without a CR at its end
 pub record WithoutReturn (bs : List ℕ) (r : ℕ) : Type 0 where
   pub kept : take r bs ≡ without-return bs
+  pub inside : r ≤ length bs
+
+-- the length of what a line says
+pub record Body (bs : List ℕ) (r : ℕ) : Type 0 where
+  pub kept : take r bs ≡ without-comment (without-return bs)
   pub inside : r ≤ length bs

@@ -7,7 +7,7 @@ ghost use Rattle.replay_words.specs.Cursor.{told as number-told};
 ghost use Rattle.replay_lines.specs.Taking.{alone, bound, taken, taken-up-to, takes as it-takes};
 ghost use Rattle.replay_lines.specs.Reasons.{behind as behind-row, instead as instead-of, parting, parts, further as the-further, why-not};
 ghost use Rattle.replay_lines.specs.Line.{said-by, said, padded};
-ghost use Rattle.replay_lines.specs.Cursor.{told, Fits, Follows, Parts, WithoutReturn};
+ghost use Rattle.replay_lines.specs.Cursor.{told, Body, Fits, Follows, Parts, WithoutReturn};
 use replay_words::Number;
 use replay_words::Piece;
 use replay_words::Word;
@@ -137,7 +137,7 @@ fn behind(word: &[u8]) -> u64
 }
 
 // Why a row does not take a word, given the largest number that it would have taken.
-fn instead(bound: Number, word: &[u8]) -> u64
+pub fn instead(bound: Number, word: &[u8]) -> u64
     ensures { λ r. ⌜ r ≡ instead-of (number-told bound) (now (word .entry)) ⌝ }
 {
     match bound {
@@ -249,13 +249,19 @@ fn length_without_return(line: &[u8]) -> usize
     n
 }
 
+// How much of a line is its words: it ends at a comment or a CR.
+pub fn body_length(line: &[u8]) -> usize
+    ensures { λ r. ⌜ Body (now (line .entry)) r ⌝ }
+{
+    let n = length_without_return(line);
+    replay_words::comment_start(&line[..n])
+}
+
 // Which row of a table a line follows, its bytes given without the LF; with none, the number of rows, and the reason as its number.
 pub fn row_of(rows: &[u8], line: &[u8], numbers: &mut [u64]) -> usize
     ensures { λ r. ⌜ (r ≡ said (now (rows .entry)) (now (line .entry)) .row)
         × (now (numbers .exit) ≡ padded (length (now (numbers .entry))) (said (now (rows .entry)) (now (line .entry)) .numbers)) ⌝ }
 {
-    let n = length_without_return(line);
-    let body = &line[..n];
-    let m = replay_words::comment_start(body);
-    row_in(rows, &body[..m], numbers)
+    let n = body_length(line);
+    row_in(rows, &line[..n], numbers)
 }

@@ -11,6 +11,7 @@ use Rattle.buffer.specs.Put.{Put}
 use Rattle.replay_words.specs.Words.{lines}
 use Rattle.replay_echo.specs.Echo.{echo}
 use Rattle.replay_rows.specs.World.{longest-call}
+use Rattle.replay_rows.specs.Loaded.{run-lines, shown-load}
 use Rattle.replay_rows.specs.Replayed.{language, shown, status, unheard}
 
 -- a call is shown before its answer
@@ -22,6 +23,16 @@ shown-call n row xs l y p = rw (y, ← l) p
 pub shown-none : (n row : ℕ) (xs : List ℕ) {e : Bool} {out : List ℕ} {at : ℕ} → e ≡ false → Put (shown e n row xs) at out out at
 unfolding shown
 shown-none n row xs f = rw f (record { bytes-put = refl; next = omega arith })
+
+-- so is a line of a dump
+pub shown-load-run : (e : Bool) (n r : ℕ) {out out′ : List ℕ} {at x : ℕ} → not e ≡ false → Put (echo n (getD (lines run-lines) r []) []) at out out′ x
+    → Put (shown-load e n r) at out out′ x
+unfolding shown-load
+shown-load-run e n r y p = rw (not-false e y) p
+
+pub shown-load-none : (e : Bool) (n r : ℕ) {out : List ℕ} {at : ℕ} → not e ≡ true → Put (shown-load e n r) at out out at
+unfolding shown-load
+shown-load-none e n r f = rw (not-true e f) (record { bytes-put = refl; next = omega arith })
 
 -- the call of a row is short
 pub shown-short : (at : ℕ) {rows : List ℕ} {r : ℕ} → rows ≡ language → r ≤ at + 26 + 20 * length rows → r ≤ at + longest-call

@@ -3,8 +3,9 @@ use Prim.Native.Nat.{ℕ}
 use mathlib.Core.Path.{_≡_, refl}
 use mathlib.Core.Bool.{true, false}
 use mathlib.Core.List.{List, [], _∷_}
+use lib.ListN.{replicate}
 use Rattle.model.specs.Choice.{first, range}
-use Rattle.model.specs.Memory.{damaged, place, tag}
+use Rattle.model.specs.Memory.{damaged, mem, place, tag}
 use Rattle.model.specs.Hash.{bytes as low-bytes, fnv, fnv-step, hash, odd-up, other-bucket, spread, tag-from}
 use Rattle.model.specs.Shape.{good-counters, good-items, good-lengths, good-slots}
 use Rattle.model.specs.Visits.{climb, first-free, free-slot, hops, lowest, next-level, visits}
@@ -21,12 +22,15 @@ use Rattle.replay_words.specs.Words.{all-digits, before, filled, lines, number,
 use Rattle.replay_print.specs.Text.{bytes}
 use Rattle.replay_print.specs.Print.{decimal-of, digits, hex-digit, hex-of, hexes, numbered, record-lines, signed-of, told}
 use Rattle.replay_answers.specs.Text.{reason}
+use Rattle.replay_loads.specs.Load.{load-of, loading, run-named, weighed}
 use Rattle.replay_lines.specs.Taking.{bound, taken, takes}
 use Rattle.replay_lines.specs.Reasons.{behind, furthest, instead, parting, why-not}
 use Rattle.replay_lines.specs.Line.{Said, first-row, fitting, said, said-by}
 use Rattle.replay_echo.specs.Echo.{behind as next-number, echo, filled-in, in-place}
-use Rattle.replay_rows.specs.Meaning.{asks, audits, calls, cut-turns, cuts, hands, judges, lists, meaning, pokes-counters, pokes-items, pokes-slots, starts, turns}
-use Rattle.replay_rows.specs.Replayed.{answers, language, missed, missed-in, replayed, reply-to, shown, status}
+use Rattle.replay_rows.specs.World.{World, reply}
+use Rattle.replay_rows.specs.Meaning.{asks, audits, calls, cut-turns, cuts, hands, judges, lists, meaning, pokes-counters, pokes-items, pokes-slots, says, starts, turns}
+use Rattle.replay_rows.specs.Loaded.{loads-run, shown-load}
+use Rattle.replay_rows.specs.Replayed.{answers, language, missed, missed-in, replayed, reply-to, shown, status, unheard-line}
 
 abbrev row : ℕ → List ℕ → Said
 row r ns = record { row = r; numbers = ns }
@@ -90,7 +94,7 @@ day = bytes "# a day of one cow\nfresh 8 1 4\nset 1 5 2 3\nread 1 720 2\nserve\t
 
 pub day-answered : answers false day
     ≡ bytes "fresh\nstored 1 0\nfresh 5 720\nold -7\ndeleted\nrefused 8\nfresh 5 719\nfresh\nstored 1 0\nfresh 4294967295 30\nevicted 7 3 1\nhand\nrefused 8\nlisted 1\n0700000000000000ffffffffffffffffffffffff\nline 16: not understood: number too large\npoked\nno such word\nline 19: not understood: number too large\nslots 0 0 0 0 0 0 0 0\ncounters 3\nitems 7 4294967295 18446744073709551615 0 9 0 0 0\n"
-unfolding replayed reply-to shown meaning starts asks calls cuts turns cut-turns hands lists pokes-slots pokes-counters pokes-items audits plain-read walk-to said said-by first-row fitting taken bound why-not furthest parting takes behind instead lines words pieces filled before same number number-from value all-digits without-comment without-return without-mark mark-length told numbered reason decimal-of signed-of digits record-lines hexes hex-of hex-digit hash fnv fnv-step low-bytes tag-from odd-up spread other-bucket tag place damaged range first good-lengths good-slots good-counters good-items hits hit vacant-place some-live visits next-level hops first-free free-slot lowest climb is-fresh age left-of verdict next-hand seek-victim passed-recent slot-of list-record records live-count listing stores
+unfolding replayed reply-to loading load-of run-named weighed loads-run shown meaning starts asks calls cuts turns cut-turns hands lists pokes-slots pokes-counters pokes-items audits plain-read walk-to said said-by first-row fitting taken bound why-not furthest parting takes behind instead lines words pieces filled before same number number-from value all-digits without-comment without-return without-mark mark-length told numbered reason decimal-of signed-of digits record-lines hexes hex-of hex-digit hash fnv fnv-step low-bytes tag-from odd-up spread other-bucket tag place damaged range first good-lengths good-slots good-counters good-items hits hit vacant-place some-live visits next-level hops first-free free-slot lowest climb is-fresh age left-of verdict next-hand seek-victim passed-recent slot-of list-record records live-count listing stores
 day-answered = refl
 
 -- a table is judged before the first fresh, fresh, with a cow, in the middle of a set, and with a twin
@@ -99,7 +103,7 @@ dump-judged = bytes "judge\nfresh 8 1 8\njudge\nset 1 5 2 3\njudge\ncut 1 set 1 
 
 pub dump-is-judged : answers false dump-judged
     ≡ bytes "no 1 0\nfresh\nyes\nstored 1 0\nyes\nstored 0 0\nno 3 0\npoked\npoked\npoked\nno 6 0\nline 12: not understood: too many numbers\n"
-unfolding judges judgement count names twin right-word is-stray is-unsought is-doubled is-misshapen replayed reply-to shown meaning starts asks calls cuts turns cut-turns hands lists pokes-slots pokes-counters pokes-items audits plain-read walk-to said said-by first-row fitting taken bound why-not furthest parting takes behind instead lines words pieces filled before same number number-from value all-digits without-comment without-return without-mark mark-length told numbered reason decimal-of signed-of digits record-lines hexes hex-of hex-digit hash fnv fnv-step low-bytes tag-from odd-up spread other-bucket tag place damaged range first good-lengths good-slots good-counters good-items hits hit vacant-place some-live visits next-level hops first-free free-slot lowest climb is-fresh age left-of verdict next-hand seek-victim passed-recent slot-of list-record records live-count listing stores
+unfolding judges judgement count names twin right-word is-stray is-unsought is-doubled is-misshapen replayed reply-to loading load-of run-named weighed loads-run shown meaning starts asks calls cuts turns cut-turns hands lists pokes-slots pokes-counters pokes-items audits plain-read walk-to said said-by first-row fitting taken bound why-not furthest parting takes behind instead lines words pieces filled before same number number-from value all-digits without-comment without-return without-mark mark-length told numbered reason decimal-of signed-of digits record-lines hexes hex-of hex-digit hash fnv fnv-step low-bytes tag-from odd-up spread other-bucket tag place damaged range first good-lengths good-slots good-counters good-items hits hit vacant-place some-live visits next-level hops first-free free-slot lowest climb is-fresh age left-of verdict next-hand seek-victim passed-recent slot-of list-record records live-count listing stores
 dump-is-judged = refl
 
 -- a text behind a byte order mark, with the calls shown, and how many of its lines are not understood
@@ -109,8 +113,40 @@ hour = 239 ∷ 187 ∷ 191 ∷ bytes "fresh 8 1 4\n\n# two lines without a call\
 pub hour-answered : (answers true hour
     ≡ bytes "1: fresh 8 1 4 -> fresh\n4: read 1 720 2 -> absent\n5: list 20 -> listed 0\nline 6: not understood: too few numbers\n7: dump -> slots 0 0 0 0 0 0 0 0\ncounters 0\nitems 0 0 0 0\n")
     × (missed hour ≡ 1)
-unfolding missed-in echo filled-in in-place next-number replayed reply-to shown meaning starts asks calls cuts turns cut-turns hands lists pokes-slots pokes-counters pokes-items audits plain-read walk-to said said-by first-row fitting taken bound why-not furthest parting takes behind instead lines words pieces filled before same number number-from value all-digits without-comment without-return without-mark mark-length told numbered reason decimal-of signed-of digits record-lines hexes hex-of hex-digit hash fnv fnv-step low-bytes tag-from odd-up spread other-bucket tag place damaged range first good-lengths good-slots good-counters good-items hits hit vacant-place some-live visits next-level hops first-free free-slot lowest climb is-fresh age left-of verdict next-hand seek-victim passed-recent slot-of list-record records live-count listing stores
+unfolding missed-in unheard-line echo filled-in in-place next-number replayed reply-to loading load-of run-named weighed loads-run shown-load shown meaning starts asks calls cuts turns cut-turns hands lists pokes-slots pokes-counters pokes-items audits plain-read walk-to said said-by first-row fitting taken bound why-not furthest parting takes behind instead lines words pieces filled before same number number-from value all-digits without-comment without-return without-mark mark-length told numbered reason decimal-of signed-of digits record-lines hexes hex-of hex-digit hash fnv fnv-step low-bytes tag-from odd-up spread other-bucket tag place damaged range first good-lengths good-slots good-counters good-items hits hit vacant-place some-live visits next-level hops first-free free-slot lowest climb is-fresh age left-of verdict next-hand seek-victim passed-recent slot-of list-record records live-count listing stores
 hour-answered = (refl, refl)
+
+-- a dump is loaded line by line and printed again; the hand stays, the words that are not understood do nothing, and a run may be emptied
+abbrev loaded-day : List ℕ
+loaded-day = bytes "counters 2\nslots 4063232 0 0 0 0 0 0 0\nhand 1\nitems 1 5 2 1 0 0 0 0 # two places\r\ndump\nslots 1 x\ncounters 4294967296 1\nread 1 720 2\nevict\nitems\nread 1 720 2"
+
+pub loaded-day-answered : (answers false loaded-day
+    ≡ bytes "loaded\nloaded\nhand\nloaded\nslots 4063232 0 0 0 0 0 0 0\ncounters 2\nitems 1 5 2 1 0 0 0 0\nline 6: not understood: unknown word\nline 7: not understood: number too large\nfresh 5 720\nevicted 1 4 1\nloaded\nrefused 1\n")
+    × (missed loaded-day ≡ 2)
+unfolding missed-in unheard-line echo filled-in in-place next-number replayed reply-to loading load-of run-named weighed loads-run shown-load shown meaning starts asks calls cuts turns cut-turns hands lists pokes-slots pokes-counters pokes-items audits plain-read walk-to said said-by first-row fitting taken bound why-not furthest parting takes behind instead lines words pieces filled before same number number-from value all-digits without-comment without-return without-mark mark-length told numbered reason decimal-of signed-of digits record-lines hexes hex-of hex-digit hash fnv fnv-step low-bytes tag-from odd-up spread other-bucket tag place damaged range first good-lengths good-slots good-counters good-items hits hit vacant-place some-live visits next-level hops first-free free-slot lowest climb is-fresh age left-of verdict next-hand seek-victim passed-recent slot-of list-record records live-count listing stores
+loaded-day-answered = (refl, refl)
+
+-- the words of a loaded run are not shown again, and nothing is shown of a line that is not understood
+pub loads-shown : answers true (bytes "\nslots 007 # one\nitems 1 -1\ncounters")
+    ≡ bytes "2: slots .. -> loaded\nline 3: not understood: unknown word\n4: counters .. -> loaded\n"
+unfolding missed-in unheard-line echo filled-in in-place next-number replayed reply-to loading load-of run-named weighed loads-run shown-load shown meaning starts asks calls cuts turns cut-turns hands lists pokes-slots pokes-counters pokes-items audits plain-read walk-to said said-by first-row fitting taken bound why-not furthest parting takes behind instead lines words pieces filled before same number number-from value all-digits without-comment without-return without-mark mark-length told numbered reason decimal-of signed-of digits record-lines hexes hex-of hex-digit hash fnv fnv-step low-bytes tag-from odd-up spread other-bucket tag place damaged range first good-lengths good-slots good-counters good-items hits hit vacant-place some-live visits next-level hops first-free free-slot lowest climb is-fresh age left-of verdict next-hand seek-victim passed-recent slot-of list-record records live-count listing stores
+loads-shown = refl
+
+-- the longest runs that the program holds, and longer ones
+module _ (w : World) where
+  pub longest-runs :
+      (loads-run 0 (replicate 8192 7) w ≡ reply (bytes "loaded\n") (mem (replicate 8192 7) (w .memory .counters) (w .memory .items)) (w .hand))
+      × (loads-run 1 (replicate 1024 7) w ≡ reply (bytes "loaded\n") (mem (w .memory .slots) (replicate 1024 7) (w .memory .items)) (w .hand))
+      × (loads-run 2 (replicate 4096 7) w ≡ reply (bytes "loaded\n") (mem (w .memory .slots) (w .memory .counters) (replicate 4096 7)) (w .hand))
+  unfolding loads-run
+  longest-runs = (refl, refl, refl)
+
+  pub longer-runs :
+      (loads-run 0 (replicate 8193 7) w ≡ says (bytes "refused 1\n") w)
+      × (loads-run 1 (replicate 1025 7) w ≡ says (bytes "refused 1\n") w)
+      × (loads-run 2 (replicate 4097 7) w ≡ says (bytes "refused 1\n") w)
+  unfolding loads-run told numbered decimal-of digits
+  longer-runs = (refl, refl, refl)
 
 pub statuses : (status true 0 ≡ 0) × (status true 7 ≡ 2) × (status false 0 ≡ 1) × (status false 7 ≡ 1)
 statuses = (refl, refl, refl, refl)

@@ -1,4 +1,5 @@
 pub mod World
 pub mod Poke
 pub mod Meaning
+pub mod Loaded
 pub mod Replayed

@@ -8,9 +8,12 @@ use Rattle.model.specs.Choice.{choose}
 use Rattle.replay_print.specs.Text.{bytes}
 use Rattle.replay_words.specs.Words.{lines, without-mark}
 use Rattle.replay_lines.specs.Line.{said, padded}
+use Rattle.replay_loads.specs.Load.{Load, faulty, loading, loads, other}
+use Rattle.replay_answers.specs.Text.{not-understood}
 use Rattle.replay_echo.specs.Echo.{echo}
 use Rattle.replay_rows.specs.World.{World, Reply, nothing}
-use Rattle.replay_rows.specs.Meaning.{Row, rows, meaning}
+use Rattle.replay_rows.specs.Meaning.{Row, rows, meaning, says}
+use Rattle.replay_rows.specs.Loaded.{loads-run, shown-load}
 
 -- the rows as a text, a line each
 abbrev pub row-lines : List Row → List ℕ
@@ -28,9 +31,18 @@ shown e n r xs = choose e (echo n (getD (lines language) r []) xs) []
 abbrev pub follows : Bool → ℕ → ℕ → List ℕ → World → Reply
 follows e n r xs w = record { text = shown e n r xs ++ meaning r n xs w .text; world = meaning r n xs w .world }
 
--- no line has more than eight numbers
+-- the same of a line of a dump
+abbrev pub loaded : Bool → ℕ → ℕ → List ℕ → World → Reply
+loaded e n r ws w = record { text = shown-load e n r ++ loads-run r ws w .text; world = loads-run r ws w .world }
+
+-- by what a line loads; no line that loads nothing has more than eight numbers
+abbrev pub reply-by : Load → Bool → ℕ → World → List ℕ → Reply
+reply-by other e n w l = follows e n (said language l .row) (padded 8 (said language l .numbers)) w
+reply-by (faulty y) e n w l = says (not-understood n y) w
+reply-by (loads r ws) e n w l = loaded e n r ws w
+
 unfoldable pub reply-to : Bool → ℕ → World → List ℕ → Reply
-reply-to e n w l = follows e n (said language l .row) (padded 8 (said language l .numbers)) w
+reply-to e n w l = reply-by (loading l) e n w l
 
 -- the lines behind n others, one after the other, each in the world that the one before it left
 unfoldable pub replayed : Bool → ℕ → World → List (List ℕ) → List ℕ
@@ -45,10 +57,19 @@ answers e text = replayed e 0 nothing (lines (without-mark text))
 abbrev pub unheard : ℕ → ℕ
 unheard r = choose (ltb r (length rows)) 0 1
 
+-- one if a line is not understood, by what it loads
+abbrev pub unheard-by : Load → List ℕ → ℕ
+unheard-by other l = unheard (said language l .row)
+unheard-by (faulty y) l = 1
+unheard-by (loads r ws) l = 0
+
+unfoldable pub unheard-line : List ℕ → ℕ
+unheard-line l = unheard-by (loading l) l
+
 -- how many lines are not understood
 unfoldable pub missed-in : List (List ℕ) → ℕ
 missed-in [] = 0
-missed-in (l ∷ ls) = unheard (said language l .row) + missed-in ls
+missed-in (l ∷ ls) = unheard-line l + missed-in ls
 
 abbrev pub missed : List ℕ → ℕ
 missed text = missed-in (lines (without-mark text))

@@ -4,6 +4,7 @@ ghost use Prim.Native.Nat.{_+_, _≤_};
 ghost use lib.ListN.{length};
 ghost use Rattle.buffer.specs.Put.{Put};
 ghost use Rattle.replay_rows.specs.World.{longest-call};
+ghost use Rattle.replay_rows.specs.Loaded.{shown-load};
 ghost use Rattle.replay_rows.specs.Replayed.{language, shown, status as status-of, unheard as is-unheard};
 
 // The position behind the answer, and the hand afterwards.
@@ -29,6 +30,25 @@ pub fn show_call(
         return replay_echo::put_echo(rows, row, numbers, number, out, at);
     }
     at
+}
+
+// The same of a line of a dump: its run's name, and not the words again.
+pub fn show_load(echo: bool, run: usize, number: u64, out: &mut [u8], at: usize) -> usize
+    requires { ⌜ at + longest-call ≤ length (now out) ⌝ }
+    ensures { λ r. ⌜ Put (shown-load echo number run) at (now (out .entry)) (now (out .exit)) r × (r ≤ at + longest-call) ⌝ }
+{
+    if !echo {
+        return at;
+    }
+    let none = [0u64; 0];
+    replay_echo::put_echo(
+        b"slots ..\ncounters ..\nitems ..\n",
+        run,
+        &none,
+        number,
+        out,
+        at,
+    )
 }
 
 // One if there is no such row, so that its line was not understood.
