@@ -25,11 +25,11 @@
  * milking, else bit 1 grazing, else holding. Every other answer and every refusal means holding. boughladder_lane says
  * all of this.
  *
- * One call at a time. No call, not even read, plain read, find, list or judge, may run while a writing call runs on
- * the same table. Fresh, set, delete, evict and their cut forms write, and so does serve. Put one mutex around every call, as
- * examples/c/antenna.c does; examples/c/torn.c shows the wrong answers that come without it. Reads, plain reads, finds,
- * lists and judges beside each other are fine. Refusal 8 (busy) is no lock: it tells of a write that was cut off, not of one
- * under way.
+ * One call at a time. No call, not even read, plain read, find, list or judge, may run while a writing call runs on the
+ * same table. Fresh, set, delete, evict and their cut forms write, and so does serve. Put one mutex around every call,
+ * as examples/c/antenna.c does; examples/c/torn.c shows the wrong answers that come without it. Reads, plain reads,
+ * finds, lists and judges beside each other are fine. Refusal 8 (busy) is no lock: it tells of a write that was cut
+ * off, not of one under way.
  *
  * The cut forms make only the first k stores of their call and answer as the whole call does: they show what a loss of
  * power leaves. A counter left odd by a cut makes its animals busy (refusal 8), and they stay busy until fresh.
@@ -166,7 +166,7 @@ enum BoughladderCondition {
     BOUGHLADDER_WRONG_LENGTH = 1,      /* a length is not as above; the run: 0 slots, 1 counters, 2 items */
     BOUGHLADDER_DAMAGED_WORD = 2,      /* a word that no call writes; its slot */
     BOUGHLADDER_ODD_COUNTER = 3,       /* a write was cut off; the counter */
-    BOUGHLADDER_STRAY_SLOT = 4,        /* the slot's place holds no animal, or one with another tag or in other buckets */
+    BOUGHLADDER_STRAY_SLOT = 4,        /* the slot's place holds no animal, or one with another tag or other buckets */
     BOUGHLADDER_NOT_ONE_SLOT = 5,      /* no slot points to a place that is taken, or several do; the place */
     BOUGHLADDER_TWIN = 6,              /* another place holds the same animal; the place */
     BOUGHLADDER_WIDE_PERMISSION = 7,   /* a permission above 32 bits, where taken or vacant; the place */
@@ -234,7 +234,7 @@ typedef struct BoughladderRecord {
  */
 
 /* Makes a table of the three runs: 0 in every word. The reply is the refusal number, 0 or 1.
-   It is the first call on any memory, and the only one that helps a busy counter. */
+   It is the first call on any memory but one that judge says yes to, and the only one that helps a busy counter. */
 BOUGHLADDER_MUST_USE
 uint32_t boughladder_fresh(uint32_t *slots, size_t slots_length, uint32_t *counters, size_t counters_length,
                            uint64_t *items, size_t items_length);
@@ -318,10 +318,11 @@ BOUGHLADDER_MUST_USE
 BoughladderReading boughladder_plain_read(const uint64_t *items, size_t items_length, uint64_t animal, uint64_t limit,
                                           uint64_t now);
 
-/* Judges memory that others have built or that a cabinet brings: a yes, condition 0, exactly if lengths, slots, counters
-   and places are as finished calls leave them; else the first condition that is broken, and where. What our finished
-   calls leave, from fresh on, gets a yes. After a yes, whoever built the table, it answers from then on as the order
-   demands. It refuses nothing and stores nothing. A full table takes less than a millisecond. */
+/* Judges memory that others have built or that a cabinet brings: a yes, condition 0, exactly if none of the eight
+   conditions is broken; else the first that is, and where. What our finished calls leave, from fresh on, gets a yes.
+   After a yes, whoever built the table, it answers from then on as the order demands; it needs no fresh. Stamps are no
+   condition, and the hand is not in the memory. It refuses nothing and stores nothing. A full table takes less than a
+   millisecond. */
 BOUGHLADDER_MUST_USE
 BoughladderJudgement boughladder_judge(const uint32_t *slots, size_t slots_length, const uint32_t *counters,
                                        size_t counters_length, const uint64_t *items, size_t items_length);
@@ -343,8 +344,8 @@ typedef struct BoughladderTable {
 
 /* A table of three arrays, to begin a BoughladderTable with; it works out the lengths.
    Slots and counters that are swapped do not compile. Neither do a pointer for an array, an array of another type, a
-   wrong length, and more counters than buckets. The library takes such counters, but no call looks at those behind the
-   first N; to shut them out is what tells a swap. Memory from malloc: fill the fields by name. */
+   wrong length, and more counters than buckets. The library takes such counters, but only judge looks at those behind
+   the first N; to shut them out is what tells a swap. Memory from malloc: fill the fields by name. */
 #define BOUGHLADDER_TABLE(slots, counters, items)                                                                 \
     {                                                                                                             \
         (slots), BOUGHLADDER_WORDS_(slots, uint32_t), (counters), BOUGHLADDER_WORDS_(counters, uint32_t), (items), \
