@@ -399,12 +399,15 @@ BoughladderJudgement anchor_judge(ANCHOR_LENT) {
     }
     for (uint32_t p = 0; p < m; p++) {
         uint32_t pointing = 0;
+        if (items[4 * p] == 0) continue;
         for (uint32_t s = 0; s < sl; s++) pointing += slots[s] != 0 && (slots[s] & 65535u) == p;
-        if (items[4 * p] != 0 && pointing != 1) return judged(5, p);
+        if (pointing != 1) return judged(5, p);
     }
-    for (uint32_t p = 0; p < m; p++)
+    for (uint32_t p = 0; p < m; p++) {
+        if (items[4 * p] == 0) continue;
         for (uint32_t q = 0; q < m; q++)
-            if (p != q && items[4 * p] != 0 && items[4 * p] == items[4 * q]) return judged(6, p);
+            if (p != q && items[4 * p] == items[4 * q]) return judged(6, p);
+    }
     for (uint32_t p = 0; p < m; p++)
         if (items[4 * p + 1] > UINT32_MAX) return judged(7, p);
     for (uint32_t p = 0; p < m; p++)
