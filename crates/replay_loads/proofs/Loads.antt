@@ -10,7 +10,7 @@ use mathlib.Core.List.{List, [], _∷_}
 use lib.ListN.{length, drop, length-set, set, take}
 use lib.Seq.{sets, sets-eq, take-at}
 use lib.Dec.{eqb, leb}
-use borrow.Author.Tests.{eq-eqb, eqb-false, eqb-true, leb-true, ne-eqb}
+use borrow.Author.Tests.{eqb-false, eqb-true, le-ltb, leb-true, lt-ltb, ne-eqb}
 use Rattle.model.specs.Choice.{choose}
 use Rattle.replay_words.specs.Words.{all-digits, number, number-from, same, value, words}
 use Rattle.replay_words.specs.Cursor.{NextWord, part, told as number-told}
@@ -50,11 +50,11 @@ module _ (w : List ℕ) {t₁ : Bool} (e₁ : t₁ ≡ same w (bytes "slots")) w
       named-none n₃ = rw (sym e₁ ∙ n₁, sym e₂ ∙ n₂, sym e₃ ∙ n₃)
 
 -- the largest word of a run
-pub top-items : (r : ℕ) → r ≡ 2 → 18446744073709551615 ≡ top-of r
-top-items r e = rw (eq-eqb r 2 e)
+pub top-narrow : (r : ℕ) → r < 2 → 4294967295 ≡ top-of r
+top-narrow r h = rw (lt-ltb r 2 h)
 
-pub top-others : (r : ℕ) → r ≢ 2 → 4294967295 ≡ top-of r
-top-others r n = rw (ne-eqb r 2 n)
+pub top-items : (r : ℕ) → 2 ≤ r → 18446744073709551615 ≡ top-of r
+top-items r h = rw (le-ltb r 2 h)
 
 -- one word more in front of others
 weight-more : (top n v : ℕ) (w : List ℕ) (r : Weighed) → weight-behind n (in-front top w (some v) r) ≡ weight-behind (n + 1) r

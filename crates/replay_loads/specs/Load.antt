@@ -3,7 +3,7 @@ use Prim.Native.Nat.{ℕ}
 use mathlib.Core.Bool.{Bool}
 use mathlib.Core.Option.{Option, none, some}
 use mathlib.Core.List.{List, [], _∷_}
-use lib.Dec.{eqb}
+use lib.Dec.{eqb, ltb}
 use Rattle.model.specs.Choice.{choose}
 use Rattle.replay_words.specs.Words.{number, same, without-comment, without-return, words}
 use Rattle.replay_print.specs.Text.{bytes}
@@ -31,7 +31,7 @@ run-named w = choose (same w (bytes "slots")) 0 (choose (same w (bytes "counters
 
 -- the largest word of a run
 abbrev pub top-of : ℕ → ℕ
-top-of r = choose (eqb r 2) 18446744073709551615 4294967295
+top-of r = choose (ltb r 2) 4294967295 18446744073709551615
 
 -- a line that loads no run; one that names a run and is not understood, and why; one that makes a run as long as it has words, with these words
 pub data Load : Type 0 where

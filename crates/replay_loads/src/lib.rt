@@ -34,10 +34,10 @@ fn run_named(word: &[u8]) -> usize
 fn top_of(run: usize) -> u64
     ensures { λ r. ⌜ r ≡ top-of run ⌝ }
 {
-    if run == 2 {
-        return LARGEST_ITEM;
+    if run < 2 {
+        return LARGEST;
     }
-    LARGEST
+    LARGEST_ITEM
 }
 
 // How many words there are, or why the first that is no word of the run is none.

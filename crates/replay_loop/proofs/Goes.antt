@@ -7,19 +7,23 @@ use mathlib.Core.Bool.{Bool}
 use mathlib.Core.List.{List, _++_, append-assoc}
 use lib.ListN.{length, take, drop, length-append}
 use lib.Seq.{take-at, length-take-le}
+use lib.Dec.{ltb}
+use Rattle.model.specs.Choice.{choose}
+use Rattle.model.proofs.ListLaws.{bool}
 use Rattle.buffer.specs.Put.{Put}
-use Rattle.buffer.proofs.Putting.{put-both, put-is, put-length}
+use Rattle.buffer.proofs.Putting.{put-is, put-length}
 use Rattle.replay_words.specs.Words.{lines}
 use Rattle.replay_words.specs.Cursor.{PieceAt, part}
 use Rattle.replay_words.specs.declared.Piece.{Piece}
-use Rattle.replay_lines.specs.Line.{said, padded}
-use Rattle.replay_rows.specs.World.{Reply, longest-call, longest-line}
-use Rattle.replay_rows.specs.Meaning.{meaning}
-use Rattle.replay_rows.specs.Replayed.{language, missed-in, replayed, reply-to, shown, unheard}
-use Rattle.replay_steps.specs.Standing.{in-use, Held, Stepped}
+use Rattle.replay_lines.specs.Line.{said}
+use Rattle.replay_loads.specs.Load.{Load, faulty, loading, loads, other}
+use Rattle.replay_rows.specs.World.{Reply, World, longest-line}
+use Rattle.replay_rows.specs.Meaning.{rows}
+use Rattle.replay_rows.specs.Replayed.{language, missed-in, replayed, reply-to, unheard-by, unheard-line}
+use Rattle.replay_steps.specs.Standing.{in-use, Held}
 use Rattle.replay_steps.specs.declared.State.{State}
-use Rattle.replay_loop.specs.Going.{LineRead, Went}
-use Rattle.replay_loop.specs.declared.Read.{Read}
+use Rattle.replay_reply.specs.Answered.{Answers}
+use Rattle.replay_loop.specs.Going.{Went}
 
 -- the bytes put stand behind those that were there
 put-front : {bs out out′ : List ℕ} {at r : ℕ} → Put bs at out out′ r → at + length bs ≤ length out → take r out′ ≡ take at out ++ bs
@@ -28,59 +32,66 @@ put-front {bs} {out} {out′} {at} {r} p h =
     let long : length (take at out ++ bs) ≡ r = omega (arith, length-append (take at out) bs, length-take-le at out short, p .next) in
     ap (take r) (put-is p h) ∙ take-at (take at out ++ bs) (drop (at + length bs) out) r long
 
--- the first of some lines is answered, and then the others
-pub line-read : (e : Bool) {rows calls xs : List ℕ} {from row m : ℕ} {piece : Piece} → rows ≡ language → PieceAt calls from piece → m ≡ 8
-    → row ≡ said rows (part calls from (piece .end)) .row → xs ≡ padded m (said rows (part calls from (piece .end)) .numbers)
-    → LineRead e calls from xs (record { row = row; next = piece .next })
-unfolding replayed reply-to missed-in
-line-read e l p k er ex =
-    record {
-      forward = p .goes-on;
-      inside = p .inside;
-      answers-first = λ n w. rw (p .first-line, er, ex, k, l, add-one) refl;
-      missed-first = rw (p .first-line, er, l) refl;
-    }
+-- a line is missed once, or it is understood
+missed-by : (x : Load) (l : List ℕ) → unheard-by x l ≤ 1
+missed-by other l = bool (λ b. choose b 0 1 ≤ 1) (ltb (said language l .row) (length rows)) (λ _. omega arith) (λ _. omega arith)
+missed-by (faulty y) l = omega arith
+missed-by (loads r ws) l = omega arith
 
-pub goes-forward : {e : Bool} {calls xs slots counters items out out′ : List ℕ} {from : ℕ} {line : Read} {y : Reply} {st r : State} → LineRead e calls from xs line
-    → Stepped y st r slots counters items out out′ → st .from ≡ line .next → from < r .from
-goes-forward p s q = omega (arith, p .forward, s .same-from)
+missed-once : (l : List ℕ) → unheard-line l ≤ 1
+unfolding unheard-line
+missed-once l = missed-by (loading l) l
+
+-- the line at a position is answered first, and then those behind it
+module _ {calls : List ℕ} {from : ℕ} {p : Piece} (piece : PieceAt calls from p) where
+  answered-first : (e : Bool) (n : ℕ) (w : World) → replayed e n w (lines (drop from calls))
+      ≡ reply-to e (n + 1) w (part calls from (p .end)) .text
+      ++ replayed e (n + 1) (reply-to e (n + 1) w (part calls from (p .end)) .world) (lines (drop (p .next) calls))
+  unfolding replayed
+  answered-first e n w = rw (piece .first-line, add-one)
+
+  missed-first : missed-in (lines (drop from calls)) ≡ unheard-line (part calls from (p .end)) + missed-in (lines (drop (p .next) calls))
+  unfolding missed-in
+  missed-first = rw (piece .first-line)
+
+  pub goes-forward : {y : Reply} {u : ℕ} {slots counters items out out′ : List ℕ} {st r : State} → Answers y u st r slots counters items out out′
+      → st .from ≡ p .next → from < r .from
+  goes-forward a q = omega (arith, piece .goes-on, a .same-from)
 
 module _ {e : Bool} {calls slots counters items out slots′ counters′ items′ out′ : List ℕ} {st r : State} where
-  pub goes-on : {line : Read} {middle : List ℕ} {at u : ℕ} (xs : List ℕ) → Held slots counters items st → LineRead e calls (st .from) xs line
-      → st .at + longest-line ≤ length out → st .number ≤ st .from → st .missed ≤ st .number
-      → Put (shown e (st .number + 1) (line .row) xs) (st .at) out middle at → at ≤ st .at + longest-call → u ≡ unheard (line .row) → u ≤ 1
-      → Stepped (meaning (line .row) (st .number + 1) xs (in-use slots counters items st))
+  pub goes-on : {p : Piece} → PieceAt calls (st .from) p → st .at + longest-line ≤ length out → st .number ≤ st .from → st .missed ≤ st .number
+      → Answers (reply-to e (st .number + 1) (in-use slots counters items st) (part calls (st .from) (p .end))) (unheard-line (part calls (st .from) (p .end)))
       (record {
         slots = st .slots;
         counters = st .counters;
         items = st .items;
         hand = st .hand;
-        number = st .number + 1;
-        missed = st .missed + u;
-        from = line .next;
-        at = at;
-      }) r slots′ counters′ items′ middle out′
+        number = st .number;
+        missed = st .missed;
+        from = p .next;
+        at = st .at;
+      }) r slots′ counters′ items′ out out′
       → Went e calls slots counters items out st slots′ counters′ items′ out′ r
-  goes-on {line} {middle} {at} {u} xs k p room few seldom t near v one s =
-      let y : Reply = meaning (line .row) (st .number + 1) xs (in-use slots counters items st) in
-      let front : List ℕ = shown e (st .number + 1) (line .row) xs in
-      let both : Put (front ++ y .text) (st .at) out out′ (r .at) = put-both t (s .put) in
-      let fits : st .at + length (front ++ y .text) ≤ length out = omega (arith, both .next, s .near) in
+  goes-on {p} piece room few seldom a =
+      let w : World = in-use slots counters items st in
+      let y : Reply = reply-to e (st .number + 1) w (part calls (st .from) (p .end)) in
+      let once : unheard-line (part calls (st .from) (p .end)) ≤ 1 = missed-once (part calls (st .from) (p .end)) in
+      let fits : st .at + length (y .text) ≤ length out = omega (arith, a .put .next, a .near) in
       record {
-        held = s .held;
-        inside = omega (arith, s .same-from, p .inside);
-        counted = omega (arith, s .same-from, s .same-number, p .forward);
-        seldom = omega (arith, s .same-missed, s .same-number);
-        onward = omega (arith, s .same-number);
-        forward = omega (arith, s .same-from, s .same-number, p .forward);
-        few = omega (arith, s .near, s .same-number);
-        long = put-length both;
-        fits = omega (arith, s .near, put-length both);
+        held = a .held;
+        inside = omega (arith, a .same-from, piece .inside);
+        counted = omega (arith, a .same-from, a .next-number, piece .goes-on);
+        seldom = omega (arith, a .missed, a .next-number);
+        onward = omega (arith, a .next-number);
+        forward = omega (arith, a .same-from, a .next-number, piece .goes-on);
+        few = omega (arith, a .near, a .next-number);
+        long = put-length (a .put);
+        fits = omega (arith, a .near, put-length (a .put));
         answered =
-            ap₂ (λ (a b : List ℕ). a ++ b) (put-front both fits) (rw (s .same-number, s .same-from, s .world-is) refl)
-            ∙ append-assoc (take (st .at) out) (front ++ y .text) (replayed e (st .number + 1) (y .world) (lines (drop (line .next) calls)))
-            ∙ ap (λ (l : List ℕ). take (st .at) out ++ l) (sym (p .answers-first (st .number) (in-use slots counters items st)));
-        missed = omega (arith, s .same-missed, v, p .missed-first, ap (λ (k : ℕ). missed-in (lines (drop k calls))) (s .same-from));
+            ap₂ (λ (b c : List ℕ). b ++ c) (put-front (a .put) fits) (rw (a .next-number, a .same-from, a .world-is) refl)
+            ∙ append-assoc (take (st .at) out) (y .text) (replayed e (st .number + 1) (y .world) (lines (drop (p .next) calls)))
+            ∙ ap (λ (l : List ℕ). take (st .at) out ++ l) (sym (answered-first piece e (st .number) w));
+        missed = omega (arith, a .missed, missed-first piece, ap (λ (k : ℕ). missed-in (lines (drop k calls))) (a .same-from));
       }
 
   -- and then more lines

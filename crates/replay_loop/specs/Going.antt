@@ -1,16 +1,14 @@
 -- Line after line, and portion after portion. Assumes nothing.
-use Prim.Native.Nat.{ℕ, _+_, _*_, _≤_, _<_}
+use Prim.Native.Nat.{ℕ, _+_, _*_, _≤_}
 use mathlib.Core.Path.{_≡_}
 use mathlib.Core.Bool.{Bool, true}
 use mathlib.Core.List.{List, _++_}
 use lib.ListN.{length, take, drop}
 use Rattle.replay_words.specs.Words.{lines}
-use Rattle.replay_rows.specs.World.{World, longest-line}
-use Rattle.replay_rows.specs.Meaning.{meaning}
-use Rattle.replay_rows.specs.Replayed.{answers, missed, missed-in, replayed, shown, unheard}
+use Rattle.replay_rows.specs.World.{longest-line}
+use Rattle.replay_rows.specs.Replayed.{answers, missed, missed-in, replayed}
 use Rattle.replay_steps.specs.Standing.{in-use, Held}
 use Rattle.replay_steps.specs.declared.State.{State}
-use Rattle.replay_loop.specs.declared.Read.{Read}
 use Rattle.replay_loop.specs.declared.Replayed.{Replayed}
 
 -- the answers that are still to come
@@ -20,15 +18,6 @@ coming e calls slots counters items s = replayed e (s .number) (in-use slots cou
 -- and how many of the lines to come will not be understood
 abbrev pub to-miss : List ℕ → State → ℕ
 to-miss calls s = missed-in (lines (drop (s .from) calls))
-
--- the line at a position was read: its row and its numbers say what it is answered with, and the other lines are those behind it
-pub record LineRead (e : Bool) (calls : List ℕ) (from : ℕ) (xs : List ℕ) (r : Read) : Type 0 where
-  pub forward : from < r .next
-  pub inside : r .next ≤ length calls
-  pub answers-first : (n : ℕ) (w : World) → replayed e n w (lines (drop from calls))
-      ≡ (shown e (n + 1) (r .row) xs ++ meaning (r .row) (n + 1) xs w .text)
-      ++ replayed e (n + 1) (meaning (r .row) (n + 1) xs w .world) (lines (drop (r .next) calls))
-  pub missed-first : missed-in (lines (drop from calls)) ≡ unheard (r .row) + missed-in (lines (drop (r .next) calls))
 
 -- some lines were answered: what is in the buffer and what is still to come is as before, and so is what is missed
 pub record Went (e : Bool) (calls slots counters items out : List ℕ) (s : State) (slots′ counters′ items′ out′ : List ℕ) (s′ : State) : Type 0 where

@@ -5,27 +5,10 @@ ghost use lib.ListN.{length};
 ghost use Rattle.replay_rows.specs.World.{longest-line};
 ghost use Rattle.replay_rows.specs.Replayed.{language};
 ghost use Rattle.replay_steps.specs.Standing.{Held};
-ghost use Rattle.replay_loop.specs.Going.{Ended, LineRead, Next, Went};
+ghost use Rattle.replay_loop.specs.Going.{Ended, Next, Went};
 use libc::STDOUT_FILENO;
 use replay_steps::State;
-
-// Which row the line at a position follows, and where the next line starts.
-struct Read {
-    row: usize,
-    next: usize,
-}
-
-fn read_line(rows: &[u8], calls: &[u8], from: usize, echo: bool, numbers: &mut [u64]) -> Read
-    requires { ⌜ (now rows ≡ language) × (from < length (now calls)) × (length (now numbers) ≡ 8) ⌝ }
-    ensures { λ r. ⌜ LineRead echo (now (calls .entry)) from (now (numbers .exit)) r ⌝ }
-{
-    let piece = replay_words::piece_at(calls, from);
-    let end = piece.end;
-    Read {
-        row: replay_lines::row_of(rows, &calls[from..end], numbers),
-        next: piece.next,
-    }
-}
+use replay_words::Piece;
 
 // The next line of the text.
 fn next_line(
@@ -45,23 +28,14 @@ fn next_line(
         (now (slots .exit)) (now (counters .exit)) (now (items .exit)) (now (out .exit)) r ⌝ }
     ensures { λ r. ⌜ state .from < r .from ⌝ }
 {
-    let mut numbers = [0u64; 8];
-    let line = read_line(rows, calls, state.from, echo, &mut numbers);
-    let number = state.number + 1;
-    let at = replay_rows::show_call(rows, echo, line.row, &numbers, number, out, state.at);
-    let here = State {
-        slots: state.slots,
-        counters: state.counters,
-        items: state.items,
-        hand: state.hand,
-        number,
-        missed: state.missed + replay_rows::unheard(line.row),
-        from: line.next,
-        at,
-    };
-    replay_steps::step(
-        line.row,
-        &numbers,
+    let from = state.from;
+    let Piece { end, next } = replay_words::piece_at(calls, from);
+    let mut here = state;
+    here.from = next;
+    replay_reply::reply(
+        rows,
+        &calls[from..end],
+        echo,
         slots,
         counters,
         items,

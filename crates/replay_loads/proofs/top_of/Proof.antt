@@ -1,5 +1,5 @@
 -- `replay_loads::top_of` meets its contract. Assumes nothing.
-use Rattle.replay_loads.proofs.Loads.{top-items, top-others}
+use Rattle.replay_loads.proofs.Loads.{top-narrow, top-items}
 use borrow.Author.Needs.{needs}
 use Rattle.replay_loads.proofs.top_of.Statement.{statement}
 use Rattle.replay_loads.proofs.top_of.Tie as tie
@@ -8,4 +8,4 @@ pub top-of-spec : {M : Type 1} → statement M
 top-of-spec =
     tie.close
     (tie.spec
-    (λ c. search top-items) (λ c. search top-others))
+    (λ c. search top-narrow) (λ c. search top-items))
