@@ -7,7 +7,8 @@ use mathlib.Core.Bool.{Bool}
 use mathlib.Core.List.{List, _++_}
 use lib.ListN.{length, take}
 use lib.Seq.{sets}
-use borrow.Author.Tests.{eq-eqb, le-leb, le-ltb, lt-leb, ne-eqb}
+use lib.Dec.{ltb}
+use borrow.Author.Tests.{eq-eqb, le-leb, le-ltb, lt-leb, lt-ltb, ne-eqb}
 use Rattle.model.specs.Memory.{Mem, mem}
 use Rattle.model.specs.Answers.{refused}
 use Rattle.buffer.specs.Put.{Put}
@@ -24,7 +25,7 @@ use Rattle.replay_answers.specs.Text.{not-understood, text}
 use Rattle.replay_rows.specs.World.{Reply, World, longest-call, longest-line, world}
 use Rattle.replay_rows.specs.Meaning.{meaning, says}
 use Rattle.replay_rows.specs.Loaded.{loads-run, room-of, shown-load, with-run}
-use Rattle.replay_rows.specs.Replayed.{follows, language, loaded, reply-by, reply-to, shown, unheard, unheard-by, unheard-line}
+use Rattle.replay_rows.specs.Replayed.{by-row, follows, language, loaded, reply-by, reply-to, shown, unheard, unheard-by, unheard-line}
 use Rattle.replay_steps.specs.Standing.{in-use, Held, Stepped}
 use Rattle.replay_steps.specs.declared.State.{State}
 use Rattle.replay_reply.specs.Answered.{Answers, Behind, Replaced}
@@ -41,7 +42,7 @@ room-items r a b = rw (ne-eqb r 0 a, ne-eqb r 1 b)
 
 -- a call, by the row that the line follows
 module _ (e : Bool) (slots counters items : List ℕ) {slots′ counters′ items′ out middle out′ : List ℕ} {st r : State} where
-  stepped : (row : ℕ) (xs : List ℕ) {at u : ℕ} → Put (shown e (st .number + 1) row xs) (st .at) out middle at → at ≤ st .at + longest-call → u ≡ unheard row
+  pub call-made : (row : ℕ) (xs : List ℕ) {at u : ℕ} → Put (shown e (st .number + 1) row xs) (st .at) out middle at → at ≤ st .at + longest-call → u ≡ unheard row
       → Stepped (meaning row (st .number + 1) xs (in-use slots counters items st))
       (record {
         slots = st .slots;
@@ -54,7 +55,7 @@ module _ (e : Bool) (slots counters items : List ℕ) {slots′ counters′ item
         at = at;
       }) r slots′ counters′ items′ middle out′
       → Answers (follows e (st .number + 1) row xs (in-use slots counters items st)) (unheard row) st r slots′ counters′ items′ out out′
-  stepped row xs t near v s =
+  call-made row xs t near v s =
       record {
         put = put-both t (s .put);
         near = omega (arith, s .near);
@@ -65,42 +66,38 @@ module _ (e : Bool) (slots counters items : List ℕ) {slots′ counters′ item
         missed = omega (arith, s .same-missed, v);
       }
 
-  pub call-made : (line : List ℕ) {rows xs : List ℕ} {row m at u : ℕ} → rows ≡ language → m ≡ 8 → row ≡ said rows line .row → xs ≡ padded m (said rows line .numbers)
-      → Put (shown e (st .number + 1) row xs) (st .at) out middle at → at ≤ st .at + longest-call → u ≡ unheard row
-      → Stepped (meaning row (st .number + 1) xs (in-use slots counters items st))
-      (record {
-        slots = st .slots;
-        counters = st .counters;
-        items = st .items;
-        hand = st .hand;
-        number = st .number + 1;
-        missed = st .missed + u;
-        from = st .from;
-        at = at;
-      }) r slots′ counters′ items′ middle out′
-      → Answers (follows e (st .number + 1) (said language line .row) (padded 8 (said language line .numbers)) (in-use slots counters items st))
-      (unheard (said language line .row)) st r slots′ counters′ items′ out out′
-  call-made line {rows} {xs} {row} l k er ex t near v s =
-      let r-is : row ≡ said language line .row = er ∙ ap (λ (b : List ℕ). said b line .row) l in
-      let x-is : xs ≡ padded 8 (said language line .numbers) =
-      ex ∙ ap (λ (n : ℕ). padded n (said rows line .numbers)) k ∙ ap (λ (b : List ℕ). padded 8 (said b line .numbers)) l in
-      subst
-      (λ (n : ℕ). Answers (follows e (st .number + 1) n (padded 8 (said language line .numbers)) (in-use slots counters items st)) (unheard n) st r slots′ counters′ items′ out out′)
-      r-is
-      (subst (λ (ys : List ℕ). Answers (follows e (st .number + 1) row ys (in-use slots counters items st)) (unheard row) st r slots′ counters′ items′ out out′) x-is
-      (stepped row xs t near v s))
+-- the row and the numbers of a line, by the rows that the code reads
+pub row-is : (line : List ℕ) {rows : List ℕ} {row : ℕ} → rows ≡ language → row ≡ said rows line .row → row ≡ said language line .row
+row-is line l er = er ∙ ap (λ (b : List ℕ). said b line .row) l
 
--- a reply by what the line loads
+pub numbers-are : (line : List ℕ) {rows xs : List ℕ} {m : ℕ} → rows ≡ language → m ≡ 8 → xs ≡ padded m (said rows line .numbers) → xs ≡ padded 8 (said language line .numbers)
+numbers-are line {rows} l k ex = ex ∙ ap (λ (n : ℕ). padded n (said rows line .numbers)) k ∙ ap (λ (b : List ℕ). padded 8 (said b line .numbers)) l
+
 module _ (e : Bool) (n : ℕ) (w : World) (line : List ℕ) {slots counters items out out′ : List ℕ} {st r : State} where
-  by-load : (x : Load) → loading line ≡ x → Answers (reply-by x e n w line) (unheard-by x line) st r slots counters items out out′
+  -- a line that follows a row
+  module _ {row : ℕ} {xs : List ℕ} (er : row ≡ said language line .row) (ex : xs ≡ padded 8 (said language line .numbers)) where
+    by-line : {u : ℕ} → unheard row ≡ u → Answers (follows e n row xs w) (unheard row) st r slots counters items out out′ → Answers (by-row e n w line) u st r slots counters items out out′
+    by-line q a =
+        subst (λ (u : ℕ). Answers (by-row e n w line) u st r slots counters items out out′) q
+        (subst (λ (m : ℕ). Answers (follows e n m (padded 8 (said language line .numbers)) w) (unheard row) st r slots counters items out out′) er
+        (subst (λ (ys : List ℕ). Answers (follows e n row ys w) (unheard row) st r slots counters items out out′) ex a))
+
+    pub as-heard : row < 20 → Answers (follows e n row xs w) (unheard row) st r slots counters items out out′ → Answers (reply-to e n w line) (unheard-line line) st r slots counters items out out′
+    unfolding reply-to unheard-line
+    as-heard h a = rw (sym (ap (λ (m : ℕ). ltb m 20) er) ∙ lt-ltb row 20 h) (by-line (rw (lt-ltb row 20 h)) a)
+
+    pub as-other : {m : Measured} → m ≡ measured (loading line) → m ≡ measures.Other → 20 ≤ row → Answers (follows e n row xs w) (unheard row) st r slots counters items out out′
+        → Answers (reply-by (loading line) e n w line) (unheard-by (loading line)) st r slots counters items out out′
+    as-other f q h a = rw (is-other (loading line) f q) (by-line (rw (le-ltb row 20 h)) a)
+
+  -- one that follows none, by what it loads
+  pub as-beside : {row : ℕ} → row ≡ said language line .row → 20 ≤ row → Answers (reply-by (loading line) e n w line) (unheard-by (loading line)) st r slots counters items out out′
       → Answers (reply-to e n w line) (unheard-line line) st r slots counters items out out′
   unfolding reply-to unheard-line
-  by-load x q a = rw q a
+  as-beside {row} er h a = rw (sym (ap (λ (m : ℕ). ltb m 20) er) ∙ le-ltb row 20 h) a
 
-  pub as-call : {m : Measured} → m ≡ measured (loading line) → m ≡ measures.Other
-      → Answers (follows e n (said language line .row) (padded 8 (said language line .numbers)) w) (unheard (said language line .row)) st r slots counters items out out′
-      → Answers (reply-to e n w line) (unheard-line line) st r slots counters items out out′
-  as-call f q a = by-load other (is-other (loading line) f q) a
+  by-load : (x : Load) → loading line ≡ x → Answers (reply-by x e n w line) (unheard-by x) st r slots counters items out out′ → Answers (reply-by (loading line) e n w line) (unheard-by (loading line)) st r slots counters items out out′
+  by-load x q a = rw q a
 
 pub told-load : (line : List ℕ) {m : Measured} {run count : ℕ} → m ≡ measured (loading line) → m ≡ measures.Loads run count
     → measures.Loads run count ≡ measured (loading line)
@@ -135,7 +132,7 @@ module _ {slots counters items out out′ : List ℕ} {st r : State} (k : Held s
 
   pub as-faulty : (e : Bool) (line : List ℕ) {m : Measured} {y at : ℕ} → m ≡ measured (loading line) → m ≡ measures.Faulty y
       → Put (not-understood (st .number + 1) y) (st .at) out out′ at → at ≤ st .at + 384 → Behind st at 1 r
-      → Answers (reply-to e (st .number + 1) (in-use slots counters items st) line) (unheard-line line) st r slots counters items out out′
+      → Answers (reply-by (loading line) e (st .number + 1) (in-use slots counters items st) line) (unheard-by (loading line)) st r slots counters items out out′
   as-faulty e line {m} {y} f q p near b =
       by-load e (st .number + 1) (in-use slots counters items st) line (faulty y) (is-faulty (loading line) f q) (said-only (not-understood (st .number + 1) y) 1 p (omega arith) b)
 
@@ -143,7 +140,7 @@ module _ {slots counters items out out′ : List ℕ} {st r : State} (k : Held s
   pub load-refused : (e : Bool) (line : List ℕ) {middle : List ℕ} {run count room at end : ℕ} → measures.Loads run count ≡ measured (loading line) → room ≡ room-of run
       → room < count → Put (shown-load e (st .number + 1) run) (st .at) out middle at → at ≤ st .at + longest-call → Put (text (refused 1)) at middle out′ end
       → end ≤ at + 384 → Behind st end 0 r
-      → Answers (reply-to e (st .number + 1) (in-use slots counters items st) line) (unheard-line line) st r slots counters items out out′
+      → Answers (reply-by (loading line) e (st .number + 1) (in-use slots counters items st) line) (unheard-by (loading line)) st r slots counters items out out′
   unfolding loads-run
   load-refused e line {middle} {run} q v h t near p close b =
       let c = is-load (loading line) q in
@@ -235,7 +232,7 @@ pub load-made : (e : Bool) (slots counters items line : List ℕ) {slots′ coun
     → measures.Loads run count ≡ measured (loading line) → room ≡ room-of run → count ≤ room → Put (shown-load e (st .number + 1) run) (st .at) out middle at
     → at ≤ st .at + longest-call → Put (line-of (bytes "loaded")) at middle out′ end → Behind st end 0 here
     → Replaced line run slots counters items here r slots′ counters′ items′
-    → Answers (reply-to e (st .number + 1) (in-use slots counters items st) line) (unheard-line line) st r slots′ counters′ items′ out out′
+    → Answers (reply-by (loading line) e (st .number + 1) (in-use slots counters items st) line) (unheard-by (loading line)) st r slots′ counters′ items′ out out′
 unfolding loads-run
 load-made e slots counters items line {st = st} {run = run} q v h t near p b x =
     let c = is-load (loading line) q in

@@ -8,16 +8,17 @@ ghost use Rattle.replay_loads.specs.Cursor.{measured};
 ghost use Rattle.replay_loads.specs.declared.Measured.the-variants as measures;
 ghost use Rattle.replay_rows.specs.World.{longest-line};
 ghost use Rattle.replay_rows.specs.Loaded.{room-of as room};
-ghost use Rattle.replay_rows.specs.Replayed.{follows, language, reply-to, unheard, unheard-line};
+ghost use Rattle.replay_rows.specs.Replayed.{follows, language, reply-by, reply-to, unheard, unheard-by, unheard-line};
 ghost use Rattle.replay_steps.specs.Standing.{in-use, Held};
 ghost use Rattle.replay_reply.specs.Answered.{Answers, Behind, Replaced};
 use replay_loads::Measured;
 use replay_steps::State;
 
-// The call of a line: the row that it follows says what it is.
+// The call of a line, by the row that it follows; with none it is not understood.
 fn make_call(
     rows: &[u8],
-    line: &[u8],
+    row: usize,
+    numbers: &[u64],
     echo: bool,
     slots: &mut [u32],
     counters: &mut [u32],
@@ -27,15 +28,12 @@ fn make_call(
     state: State,
 ) -> State
     requires { ⌜ (now rows ≡ language) × Held (now slots) (now counters) (now items) state × (state .at + longest-line ≤ length (now out)) ⌝ }
-    requires { ⌜ (state .number < state .from) × (state .missed ≤ state .number) × (length (now records) ≡ 81920) ⌝ }
-    ensures { λ r. ⌜ Answers (follows echo (state .number + 1) (said language (now (line .entry)) .row) (padded 8 (said language (now (line .entry)) .numbers))
-        (in-use (now (slots .entry)) (now (counters .entry)) (now (items .entry)) state)) (unheard (said language (now (line .entry)) .row)) state r
-        (now (slots .exit)) (now (counters .exit)) (now (items .exit)) (now (out .entry)) (now (out .exit)) ⌝ }
+    requires { ⌜ (state .number < state .from) × (state .missed ≤ state .number) × (length (now records) ≡ 81920) × (length (now numbers) ≡ 8) ⌝ }
+    ensures { λ r. ⌜ Answers (follows echo (state .number + 1) row (now (numbers .entry)) (in-use (now (slots .entry)) (now (counters .entry)) (now (items .entry)) state))
+        (unheard row) state r (now (slots .exit)) (now (counters .exit)) (now (items .exit)) (now (out .entry)) (now (out .exit)) ⌝ }
 {
-    let mut numbers = [0u64; 8];
-    let row = replay_lines::row_of(rows, line, &mut numbers);
     let number = state.number + 1;
-    let at = replay_rows::show_call(rows, echo, row, &numbers, number, out, state.at);
+    let at = replay_rows::show_call(rows, echo, row, numbers, number, out, state.at);
     let here = State {
         slots: state.slots,
         counters: state.counters,
@@ -46,7 +44,7 @@ fn make_call(
         from: state.from,
         at,
     };
-    replay_steps::step(row, &numbers, slots, counters, items, records, out, here)
+    replay_steps::step(row, numbers, slots, counters, items, records, out, here)
 }
 
 // A line more, and the buffer filled up to a position.
@@ -121,8 +119,8 @@ fn load(
 ) -> State
     requires { ⌜ (measures.Loads run count ≡ measured (loading (now line))) × Held (now slots) (now counters) (now items) state × (state .at + longest-line ≤ length (now out)) ⌝ }
     requires { ⌜ (state .number < state .from) × (state .missed ≤ state .number) ⌝ }
-    ensures { λ r. ⌜ Answers (reply-to echo (state .number + 1) (in-use (now (slots .entry)) (now (counters .entry)) (now (items .entry)) state) (now (line .entry)))
-        (unheard-line (now (line .entry))) state r (now (slots .exit)) (now (counters .exit)) (now (items .exit)) (now (out .entry)) (now (out .exit)) ⌝ }
+    ensures { λ r. ⌜ Answers (reply-by (loading (now (line .entry))) echo (state .number + 1) (in-use (now (slots .entry)) (now (counters .entry)) (now (items .entry)) state) (now (line .entry)))
+        (unheard-by (loading (now (line .entry)))) state r (now (slots .exit)) (now (counters .exit)) (now (items .exit)) (now (out .entry)) (now (out .exit)) ⌝ }
 {
     let at = replay_rows::show_load(echo, run, state.number + 1, out, state.at);
     if room_of(run) < count {
@@ -134,7 +132,58 @@ fn load(
     replace(line, run, count, slots, counters, items, here)
 }
 
-// The next line, given without its LF, and the position behind it already in the state.
+// A line that follows no row: one of a dump, or one that is not understood.
+fn beside_the_rows(
+    rows: &[u8],
+    line: &[u8],
+    row: usize,
+    numbers: &[u64],
+    echo: bool,
+    slots: &mut [u32],
+    counters: &mut [u32],
+    items: &mut [u64],
+    records: &mut [u8],
+    out: &mut [u8],
+    state: State,
+) -> State
+    requires { ⌜ (now rows ≡ language) × Held (now slots) (now counters) (now items) state × (state .at + longest-line ≤ length (now out)) ⌝ }
+    requires { ⌜ (state .number < state .from) × (state .missed ≤ state .number) × (length (now records) ≡ 81920) × (length (now numbers) ≡ 8) ⌝ }
+    requires { ⌜ (row ≡ said language (now line) .row) × (now numbers ≡ padded 8 (said language (now line) .numbers)) × (20 ≤ row) ⌝ }
+    ensures { λ r. ⌜ Answers (reply-by (loading (now (line .entry))) echo (state .number + 1) (in-use (now (slots .entry)) (now (counters .entry)) (now (items .entry)) state) (now (line .entry)))
+        (unheard-by (loading (now (line .entry)))) state r (now (slots .exit)) (now (counters .exit)) (now (items .exit)) (now (out .entry)) (now (out .exit)) ⌝ }
+{
+    match replay_loads::measure(line) {
+        Measured::Other => make_call(
+            rows,
+            row,
+            numbers,
+            echo,
+            slots,
+            counters,
+            items,
+            records,
+            out,
+            state,
+        ),
+        Measured::Faulty(why) => {
+            let end = replay_answers::put_not_understood(out, state.at, state.number + 1, why);
+            behind(state, end, 1)
+        }
+        Measured::Loads(run, count) => load(
+            line,
+            run,
+            count,
+            echo,
+            slots,
+            counters,
+            items,
+            out,
+            state,
+        ),
+    }
+}
+
+// The next line, given without its LF, and the position behind it already in the state. The rows come first: most lines are calls.
 pub fn reply(
     rows: &[u8],
     line: &[u8],
@@ -151,12 +200,33 @@ pub fn reply(
     ensures { λ r. ⌜ Answers (reply-to echo (state .number + 1) (in-use (now (slots .entry)) (now (counters .entry)) (now (items .entry)) state) (now (line .entry)))
         (unheard-line (now (line .entry))) state r (now (slots .exit)) (now (counters .exit)) (now (items .exit)) (now (out .entry)) (now (out .exit)) ⌝ }
 {
-    match replay_loads::measure(line) {
-        Measured::Other => make_call(rows, line, echo, slots, counters, items, records, out, state),
-        Measured::Faulty(why) => {
-            let end = replay_answers::put_not_understood(out, state.at, state.number + 1, why);
-            behind(state, end, 1)
-        }
-        Measured::Loads(run, count) => load(line, run, count, echo, slots, counters, items, out, state),
+    let mut numbers = [0u64; 8];
+    let row = replay_lines::row_of(rows, line, &mut numbers);
+    if row < 20 {
+        return make_call(
+            rows,
+            row,
+            &numbers,
+            echo,
+            slots,
+            counters,
+            items,
+            records,
+            out,
+            state,
+        );
     }
+    beside_the_rows(
+        rows,
+        line,
+        row,
+        &numbers,
+        echo,
+        slots,
+        counters,
+        items,
+        records,
+        out,
+        state,
+    )
 }

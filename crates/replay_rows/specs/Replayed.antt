@@ -35,14 +35,21 @@ follows e n r xs w = record { text = shown e n r xs ++ meaning r n xs w .text; w
 abbrev pub loaded : Bool → ℕ → ℕ → List ℕ → World → Reply
 loaded e n r ws w = record { text = shown-load e n r ++ loads-run r ws w .text; world = loads-run r ws w .world }
 
--- by what a line loads; no line that loads nothing has more than eight numbers
+-- whether a line follows a row; its reply by that row, or by none. No row has more than eight numbers
+abbrev pub heard : List ℕ → Bool
+heard l = ltb (said language l .row) (length rows)
+
+abbrev pub by-row : Bool → ℕ → World → List ℕ → Reply
+by-row e n w l = follows e n (said language l .row) (padded 8 (said language l .numbers)) w
+
+-- a line that follows no row, by what it loads
 abbrev pub reply-by : Load → Bool → ℕ → World → List ℕ → Reply
-reply-by other e n w l = follows e n (said language l .row) (padded 8 (said language l .numbers)) w
+reply-by other e n w l = by-row e n w l
 reply-by (faulty y) e n w l = says (not-understood n y) w
 reply-by (loads r ws) e n w l = loaded e n r ws w
 
 unfoldable pub reply-to : Bool → ℕ → World → List ℕ → Reply
-reply-to e n w l = reply-by (loading l) e n w l
+reply-to e n w l = choose (heard l) (by-row e n w l) (reply-by (loading l) e n w l)
 
 -- the lines behind n others, one after the other, each in the world that the one before it left
 unfoldable pub replayed : Bool → ℕ → World → List (List ℕ) → List ℕ
@@ -57,14 +64,14 @@ answers e text = replayed e 0 nothing (lines (without-mark text))
 abbrev pub unheard : ℕ → ℕ
 unheard r = choose (ltb r (length rows)) 0 1
 
--- one if a line is not understood, by what it loads
-abbrev pub unheard-by : Load → List ℕ → ℕ
-unheard-by other l = unheard (said language l .row)
-unheard-by (faulty y) l = 1
-unheard-by (loads r ws) l = 0
+-- one if a line that follows no row is not understood, by what it loads
+abbrev pub unheard-by : Load → ℕ
+unheard-by other = 1
+unheard-by (faulty y) = 1
+unheard-by (loads r ws) = 0
 
 unfoldable pub unheard-line : List ℕ → ℕ
-unheard-line l = unheard-by (loading l) l
+unheard-line l = choose (heard l) 0 (unheard-by (loading l))
 
 -- how many lines are not understood
 unfoldable pub missed-in : List (List ℕ) → ℕ

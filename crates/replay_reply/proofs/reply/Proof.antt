@@ -1,19 +1,32 @@
 -- `replay_reply::reply` meets its contract. Assumes nothing.
-use Rattle.replay_reply.proofs.Replies.{as-call, as-faulty, told-load}
+use mathlib.Core.Path.{refl}
+use Rattle.replay_reply.proofs.Replies.{as-heard, as-beside, numbers-are, row-is}
 use borrow.Author.Needs.{needs}
 use Rattle.replay_reply.proofs.reply.Statement.{statement}
 use Rattle.replay_reply.proofs.reply.Tie as tie
 
-load-requires : tie.Need-load-requires
-load-requires c κs =
-    let asked = c .before .before .before .before .before .before .before .before .before .before .before .before .before .before .before .pre in
-    ((search told-load, asked .0 .1, asked .0 .2), (asked .1 .0, asked .1 .1))
+returns : tie.Need-returns
+returns c =
+    let asked = c .before .before .before .before .before .before .before .before .before .before .before .before .before .before .before .before .before .before .before .before .before .before .before .before .before .before .before .before .pre in
+    let row = c .before .before .before .before .before .before .before .before .before .before .before .before .before .before .before .before .before .before .before .row-of .ensures in
+    search (as-heard, row-is _ (asked .0 .0) (row .0), numbers-are _ (asked .0 .0) refl (row .1))
+
+beside-requires : tie.Need-beside-the-rows-requires
+beside-requires c κs =
+    let asked = c .before .before .before .before .before .before .before .before .before .before .before .before .before .before .before .before .before .pre in
+    let row = c .before .before .before .before .before .before .before .before .row-of .ensures in
+    (asked .0, ((asked .1 .0, asked .1 .1, asked .1 .2, search needs), (row-is _ (asked .0 .0) (row .0), numbers-are _ (asked .0 .0) refl (row .1), search needs)))
+
+returns-2 : tie.Need-returns-2
+returns-2 c =
+    let asked = c .before .before .before .before .before .before .before .before .before .before .before .before .before .before .before .before .before .before .before .before .before .before .before .before .before .before .before .before .pre in
+    let row = c .before .before .before .before .before .before .before .before .before .before .before .before .before .before .before .before .before .before .before .row-of .ensures in
+    search (as-beside, row-is _ (asked .0 .0) (row .0))
 
 pub reply-spec : {M : Type 1} → statement M
 reply-spec =
     tie.close
     (tie.spec
-    (λ c κs. search needs) (λ c. search needs) (λ c κs. search needs) (λ c. search needs) (λ c. search needs) (λ c κs. search needs)
-    (λ c κs. search needs) (λ c. search needs) load-requires (λ c. search needs) (λ c. search needs) (λ c. search needs) (λ c. search needs)
-    (λ c. search needs) (λ c. search as-call) (λ c. search needs) (λ c. search as-faulty) (λ c. search needs) (λ c. search needs)
-    (λ c. search needs) (λ c. search needs) (λ c. search needs))
+    (λ c. search needs) (λ c κs. search needs) (λ c. search needs) (λ c κs. search needs) (λ c. search needs) (λ c. search needs) (λ c. search needs)
+    (λ c. search needs) (λ c. search needs) returns (λ c. search needs) beside-requires
+    (λ c. search needs) (λ c. search needs) (λ c. search needs) (λ c. search needs) (λ c. search needs) returns-2)
