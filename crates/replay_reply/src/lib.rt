@@ -152,11 +152,31 @@ pub fn reply(
         (unheard-line (now (line .entry))) state r (now (slots .exit)) (now (counters .exit)) (now (items .exit)) (now (out .entry)) (now (out .exit)) ⌝ }
 {
     match replay_loads::measure(line) {
-        Measured::Other => make_call(rows, line, echo, slots, counters, items, records, out, state),
+        Measured::Other => make_call(
+            rows,
+            line,
+            echo,
+            slots,
+            counters,
+            items,
+            records,
+            out,
+            state,
+        ),
         Measured::Faulty(why) => {
             let end = replay_answers::put_not_understood(out, state.at, state.number + 1, why);
             behind(state, end, 1)
         }
-        Measured::Loads(run, count) => load(line, run, count, echo, slots, counters, items, out, state),
+        Measured::Loads(run, count) => load(
+            line,
+            run,
+            count,
+            echo,
+            slots,
+            counters,
+            items,
+            out,
+            state,
+        ),
     }
 }
