@@ -36,9 +36,10 @@ INLINE void store64(Budget *budget, uint64_t *word, uint64_t value) {
     *word = value;
 }
 
-INLINE int good_shape(size_t sl, size_t cl, size_t il) {
-    return sl >= 8 && sl <= 8192 && (sl & (sl - 1)) == 0 && cl >= 1 && cl <= 1024 && il >= 4 && il <= 16384 && il % 4 == 0;
-}
+INLINE int good_slots(size_t sl) { return sl >= 8 && sl <= 8192 && (sl & (sl - 1)) == 0; }
+INLINE int good_counters(size_t cl) { return cl >= 1 && cl <= 1024; }
+INLINE int good_items(size_t il) { return il >= 4 && il <= 16384 && il % 4 == 0; }
+INLINE int good_shape(size_t sl, size_t cl, size_t il) { return good_slots(sl) && good_counters(cl) && good_items(il); }
 
 INLINE uint32_t fnv1a(uint64_t animal) {
     uint32_t h = 2166136261u;
@@ -372,4 +373,44 @@ BoughladderReading anchor_plain_read(const uint64_t *items, size_t il, uint64_t 
     r.kind = r.left < 0 ? BOUGHLADDER_OLD : BOUGHLADDER_FRESH;
     if (r.kind == BOUGHLADDER_FRESH) r.permission = (uint32_t)items[i + 1];
     return r;
+}
+
+INLINE BoughladderJudgement judged(uint32_t condition, size_t at) {
+    BoughladderJudgement j = {condition, at};
+    return j;
+}
+
+/* The eight conditions as they are written, each a walk of its own: who points to a place is counted over all slots, and
+   twins are looked for among all pairs of places. That is long on a large table. */
+BoughladderJudgement anchor_judge(ANCHOR_LENT) {
+    if (!good_slots(sl)) return judged(1, 0);
+    if (!good_counters(cl)) return judged(1, 1);
+    if (!good_items(il)) return judged(1, 2);
+    uint32_t n = (uint32_t)(sl / 4), m = (uint32_t)(il / 4);
+    for (uint32_t s = 0; s < sl; s++)
+        if (damaged(slots[s], m)) return judged(2, s);
+    for (uint32_t c = 0; c < cl; c++)
+        if (counters[c] % 2 != 0) return judged(3, c);
+    for (uint32_t s = 0; s < sl; s++) {
+        if (slots[s] == 0) continue;
+        uint64_t animal = items[4 * (slots[s] & 65535u)];
+        Homes home = homes_of(animal, n, cl);
+        if (animal == 0 || home.tag != slots[s] >> 16 || (home.first != s / 4 && home.other != s / 4)) return judged(4, s);
+    }
+    for (uint32_t p = 0; p < m; p++) {
+        uint32_t pointing = 0;
+        if (items[4 * p] == 0) continue;
+        for (uint32_t s = 0; s < sl; s++) pointing += slots[s] != 0 && (slots[s] & 65535u) == p;
+        if (pointing != 1) return judged(5, p);
+    }
+    for (uint32_t p = 0; p < m; p++) {
+        if (items[4 * p] == 0) continue;
+        for (uint32_t q = 0; q < m; q++)
+            if (p != q && items[4 * p] == items[4 * q]) return judged(6, p);
+    }
+    for (uint32_t p = 0; p < m; p++)
+        if (items[4 * p + 1] > UINT32_MAX) return judged(7, p);
+    for (uint32_t p = 0; p < m; p++)
+        if (items[4 * p] == 0 && (items[4 * p + 1] | items[4 * p + 2] | items[4 * p + 3]) != 0) return judged(8, p);
+    return judged(0, 0);
 }

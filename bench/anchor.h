@@ -26,5 +26,6 @@ BoughladderEvicting anchor_evict(ANCHOR_TABLE, size_t hand);
 BoughladderEvicting anchor_evict_cut(ANCHOR_TABLE, size_t hand, uint64_t k);
 BoughladderListing anchor_list(ANCHOR_LENT, uint8_t *buffer, size_t buffer_length);
 BoughladderReading anchor_plain_read(const uint64_t *items, size_t il, uint64_t animal, uint64_t limit, uint64_t now);
+BoughladderJudgement anchor_judge(ANCHOR_LENT);
 
 #endif

@@ -62,7 +62,7 @@ static void a_day(uint64_t count) {
 }
 
 /* From here on the edges. A line is put together from words, each of which may go wrong by itself. */
-static char line[3 * LONGEST];
+static char line[5 * LONGEST];
 static size_t used;
 
 static const char *const edges[] = {
@@ -72,7 +72,7 @@ static const char *const edges[] = {
     "-4611686018427387904", "4294967294", "4294967295", "4294967296", "0", "1", "00", "65536", "10080", "10081", "81919",
     "81920", "81921", "8192", "8196", "16384", "1024", "1025", "4096", "4100", "-0", "-1", "+1", "1.", "1,024", "0x10",
     "1e3", "1_0", "'1'", "standing", "set", "\v1", "1\f", "\xc2\xa0", "\r", "1\r", "\\", "/", ":", "9:", "\xef\xbb\xbf",
-    "standig", "evict", "slots", "99999999999999999999x", "x99999999999999999999", "plain",
+    "standig", "evict", "slots", "99999999999999999999x", "x99999999999999999999", "plain", "judge", "..",
 };
 
 static void put(const char *text) {
@@ -98,17 +98,27 @@ static void word(const char *text) {
     } while (one_in(400));
 }
 
+static const char *an_edge(void) { return edges[below(sizeof edges / sizeof *edges)]; }
+
 static void number(uint64_t value) {
     char text[128];
     if (one_in(60)) value += UINT64_C(1) << 32; /* the same, if somebody keeps 32 bits of it */
     int digits = one_in(50) ? (int)below(100) : 1; /* with zeros before it */
     snprintf(text, sizeof text, "%0*" PRIu64, digits, value);
-    word(one_in(80) ? edges[below(sizeof edges / sizeof *edges)] : text);
+    word(one_in(80) ? an_edge() : text);
+}
+
+/* In a long line most words must be right, or it is never understood. */
+static void right_number(uint64_t value) {
+    char text[24];
+    snprintf(text, sizeof text, " %" PRIu64, value);
+    put(text);
 }
 
 /* The lengths of the runs, a factor that scatters the animals, the animal of the last set and its minute of issue. */
 static uint64_t slots = 16, counters = 4, items = 20, factor = 1, last = 1, last_issued = 500;
 static enum { WHOLE, CUT, POKED } mood;
+static const char *const runs[] = {"slots", "counters", "items"};
 
 static uint64_t an_animal(void) { return one_in(5) ? last : (1 + below(items / 2 + 2)) * factor; }
 static uint64_t a_minute(void) { return 500 + below(1000); }
@@ -207,9 +217,36 @@ static void an_ask(void) {
     number(turn ? a_turn(limit) : one_in(60) ? UINT64_MAX - below(2) : a_minute());
 }
 
+static uint64_t of_any_size(void) {
+    uint64_t bits = below(64);
+    return any() >> bits;
+}
+
+/* A run of any length, the right one too, none, and a word more than the program holds. */
+static void a_run(void) {
+    static const uint64_t most[] = {8192, 1024, 4096};
+    uint64_t which = below(3), length = which == 0 ? slots : which == 1 ? counters : items;
+    if (one_in(20)) length = most[which] + below(2);
+    else if (length > 200 && !one_in(8)) length = below(9);
+    else if (one_in(3)) length = below(2 * length + 2);
+    else if (one_in(4)) length = 0;
+    int slips = length < 50 && one_in(3), zeros = one_in(2) || length > 200;
+    word(runs[which]);
+    for (; length > 0; length--) {
+        uint64_t value = zeros ? 0 : one_in(4) ? of_any_size() : below(3);
+        if (slips) number(value);
+        else right_number(which < 2 ? (uint32_t)value : value);
+    }
+    if (one_in(6)) word(an_edge());
+}
+
+static int judging; /* the next call */
+
 static void a_call(void) {
     uint64_t kind = below(100);
-    if (one_in(150)) fresh();
+    if (judging || one_in(25)) word("judge"), judging = 0;
+    else if (one_in(mood == POKED ? 60 : 400)) a_run(), judging = one_in(2);
+    else if (one_in(150)) fresh();
     else if (kind < 45) a_write();
     else if (kind < 80) an_ask();
     else if (kind < 84) word("hand"), number(below(items / 4 + 1));
@@ -217,8 +254,17 @@ static void a_call(void) {
         word("list");
         number(one_in(2) ? below(5 * items + 21) : one_in(2) ? 20 * below(items / 4 + 1) : 81919 + below(3));
     } else if (kind < 91) word("dump");
-    else if (mood == POKED || kind > 98) poke();
+    else if (mood == POKED || kind > 98) poke(), judging = one_in(2);
     else a_write();
+}
+
+static void end_line(void) {
+    if (one_in(30)) put(one_in(2) ? " # set 1 1 1 1" : "#");
+    if (one_in(600)) put_many('#', a_length());
+    if (used > 0 && one_in(60)) line[below(used)] = (char)below(256); /* a NUL or a line end, too */
+    if (one_in(8)) put_many('\r', one_in(20) ? 2 : 1);
+    put("\n");
+    fwrite(line, 1, used, stdout);
 }
 
 static void a_line(void) {
@@ -228,12 +274,79 @@ static void a_line(void) {
     if (one_in(40)) used = below(used + 1); /* it ends early */
     if (one_in(100)) number(a_minute()); /* a word too many */
     if (one_in(300)) put_many(" \t0a"[below(4)], a_length());
-    if (one_in(30)) put(one_in(2) ? " # set 1 1 1 1" : "#");
-    if (one_in(600)) put_many('#', a_length());
-    if (used > 0 && one_in(60)) line[below(used)] = (char)below(256); /* a NUL or a line end, too */
-    if (one_in(8)) put_many('\r', one_in(20) ? 2 : 1);
-    put("\n");
-    fwrite(line, 1, used, stdout);
+    end_line();
+}
+
+/* A dump, as another workshop builds its table: each animal at a place of her own, in a free slot of her two buckets. */
+static uint64_t dump[3][256], lengths[3];
+
+static uint32_t hash(uint64_t animal) {
+    uint32_t h = 2166136261u;
+    for (int i = 0; i < 8; i++) h = (h ^ (uint32_t)(animal >> 8 * i & 255)) * 16777619u;
+    return h;
+}
+
+static void enter(uint64_t place, uint64_t animal) {
+    uint32_t h = hash(animal), tag = h >> 24 ? h >> 24 : 1, n = (uint32_t)slots / 4, first = h % n;
+    uint32_t other = first ^ (tag * 1540483477u % n | 1);
+    for (uint64_t from = below(8), i = from; i < from + 8; i++) {
+        uint64_t *slot = dump[0] + 4 * (i % 8 < 4 ? first : other) + i % 4;
+        if (*slot != 0) continue;
+        uint64_t *item = dump[2] + 4 * place;
+        *slot = (uint64_t)tag << 16 | place;
+        if (animal == 0) return;
+        item[0] = last = animal, item[1] = below(5), item[2] = last_issued = a_minute(), item[3] = below(2);
+        return;
+    }
+}
+
+/* One fault. Each condition of the judge has its own, but not every fault breaks it. */
+static void a_fault(void) {
+    static const uint64_t damage[] = {1, 65535, UINT64_C(256) << 16, UINT64_C(65535) << 16};
+    uint64_t place = below(items / 4), *item = dump[2] + 4 * place, *slot = dump[0] + below(slots), which = below(3);
+    uint64_t right = which == 0 ? slots : which == 1 ? counters : items, few = below(3), tag = (1 + below(255)) << 16;
+    uint64_t kept = *slot, twin = 0;
+    switch (below(8)) {
+    case 0: lengths[which] = one_in(4) ? 0 : one_in(3) ? 2 * right : one_in(2) ? right / 2 : right - 1; break;
+    case 1: *slot = one_in(2) ? damage[below(4)] : tag | (items / 4 - few / 2); break;
+    case 2: dump[1][below(counters)] = which == 0 ? UINT32_MAX - few : few; break;
+    case 3: /* another tag, a vacant place, or another slot */
+        if (one_in(2)) *slot ^= *slot != 0 ? UINT64_C(65536) << below(8) : tag | place;
+        else which = below(slots), *slot = dump[0][which], dump[0][which] = kept;
+        break;
+    case 4: /* a slot that is lost, or two for one place; or one for a vacant place, as if 0 were an animal */
+        if (one_in(2)) *slot = 0;
+        else enter(place, item[0]);
+        break;
+    case 5: /* twins */
+        while (twin < items / 4 && dump[2][4 * twin] != 0) twin++;
+        if (twin < items / 4 && item[0] != 0) enter(twin, item[0]);
+        break;
+    case 6: item[1] = one_in(2) ? UINT32_MAX + few : UINT64_C(1) << (32 + below(32)); break;
+    default: item[item[0] == 0 ? 1 + below(3) : below(4)] = few;
+    }
+}
+
+/* The three lines of a dump, with faults or without, and then the verdict. */
+static void a_dump(void) {
+    slots = UINT64_C(8) << below(3), counters = 1 + below(8), items = 4 * (1 + below(slots)), factor = a_factor();
+    lengths[0] = slots, lengths[1] = counters, lengths[2] = items;
+    memset(dump, 0, sizeof dump);
+    for (uint64_t i = 0; i < counters; i++) dump[1][i] = (uint32_t)of_any_size() & ~UINT32_C(1);
+    for (uint64_t place = 0; place < items / 4; place++)
+        if (!one_in(3)) enter(place, (place + 1) * factor);
+    for (uint64_t faults = below(3); faults > 0; faults--) a_fault();
+    for (int which = 0; which < 3; which++) {
+        if (one_in(30)) continue;
+        uint64_t slip = one_in(12) ? below(lengths[which] + 1) : UINT64_MAX;
+        used = 0;
+        put(runs[which]);
+        for (uint64_t i = 0; i < lengths[which]; i++)
+            if (i == slip) number(dump[which][i]), word(an_edge());
+            else right_number(dump[which][i]);
+        end_line();
+    }
+    judging = !one_in(8);
 }
 
 /* The first lines have no table, and in the first of all 1 comes before 2 and 3. The last line shows every word; its line
@@ -244,6 +357,7 @@ static void the_edges(uint64_t seed, uint64_t count) {
     for (uint64_t made = 1; made < count; made++)
         if (made == 1) puts("plain 0 10081 1");
         else if (made == 40) puts("fresh 16 4 20");
+        else if (one_in(mood == POKED ? 12 : 400)) a_dump();
         else a_line();
     printf("dump%s", ends[seed % 4]);
 }

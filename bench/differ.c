@@ -20,6 +20,12 @@
  *              of one that is held and of a random one, each beside our read, the same in every field
  *     other    of one that stands in the item words and of a random one, each beside both C walks
  * On M 4096, where a walk is long, the first of a clean table comes behind every call, the others behind one in LARGE_SHARE.
+ *
+ * And then our memory is judged, by ours and by the second table, and where it is not long by the anchor too:
+ *     clean    behind every call that has written: it must be a yes. And with one fault, planted and put back: the verdict
+ *              must tell its condition, and whom it was planted at
+ *     other    as it is, with a fault or two more, and with other lengths
+ * On M 4096 that comes behind one call in JUDGE_SHARE.
  */
 #include "anchor.h"
 #include "second.h"
@@ -34,6 +40,8 @@
 #define BUFFER (20 * 4096 + 64)
 #define POOL 9000
 #define LARGE_SHARE 8
+#define JUDGE_SHARE 64
+#define NOWHERE SIZE_MAX
 #define FAR (UINT64_C(1) << 62) /* minutes overdue; beyond them the answer stays the same */
 
 enum { OURS, ANCHOR, SECOND, TABLES };
@@ -64,6 +72,12 @@ static const char *const turn_names[TURNS] = {"1", "0", "-1", "-2^62 + 1", "-2^6
 typedef struct {
     uint64_t asked, by_answer[4], by_refusal[4], by_turn[TURNS], shorter, last, standing, wide, twins;
 } Plains;
+
+/* What is judged: tables that must get a yes, with one fault or not; other memory, as it is or bent. */
+enum { LEFT_CLEAN, PLANTED, LEFT_OTHER, BENT, JUDGED };
+static const char *const judged_names[JUDGED] = {"clean tables, each a yes,",
+                                                 "one fault in a clean table, each told as planted,", "other memory",
+                                                 "any memory with faults and other lengths"};
 
 /* One table: its block of memory, and where the runs lie in it. */
 typedef struct {
@@ -96,6 +110,7 @@ static uint64_t by_turn[TURNS], by_meeting[MEETINGS], most_visits, large_calls, 
 static uint64_t by_beside[BESIDES], by_bytes[CALLS][9][2]; /* by the bytes of the number: all, those held or stored */
 static int clean; /* whether finished calls from fresh have made the table, all with the lengths that fresh got */
 static Plains plains[2]; /* by clean */
+static uint64_t by_verdict[JUDGED][9], by_anchor, judge_state; /* its own draws, so that the calls stay the same */
 
 static uint64_t any(void) { /* splitmix64 */
     uint64_t z = (state += UINT64_C(0x9e3779b97f4a7c15));
@@ -536,6 +551,174 @@ static void audit(const Call *c, int kind, size_t live, int all) {
     a_time(&q, item[2]), ask_plainly(&q, kind);
 }
 
+/* The words that a planted fault has overwritten. */
+static struct {
+    uint32_t *narrow;
+    uint64_t *wide, was;
+} kept[32];
+static size_t kept_count;
+
+static void plant32(uint32_t *word, uint32_t value) {
+    kept[kept_count].narrow = word;
+    kept[kept_count++].was = *word;
+    *word = value;
+}
+
+static void plant64(uint64_t *word, uint64_t value) {
+    kept[kept_count].narrow = NULL;
+    kept[kept_count].wide = word;
+    kept[kept_count++].was = *word;
+    *word = value;
+}
+
+static void put_back(void) {
+    while (kept_count > 0) {
+        kept_count--;
+        if (kept[kept_count].narrow) *kept[kept_count].narrow = (uint32_t)kept[kept_count].was;
+        else *kept[kept_count].wide = kept[kept_count].was;
+    }
+}
+
+/* A random slot, free or occupied, or a random vacant place; or NOWHERE. */
+static size_t a_slot(int occupied) {
+    for (size_t i = 0, from = below(4 * n); i < 4 * n; i++)
+        if ((ours->slots[(from + i) % (4 * n)] != 0) == occupied) return (from + i) % (4 * n);
+    return NOWHERE;
+}
+
+static size_t a_vacant_place(void) {
+    for (size_t i = 0, from = below(m); i < m; i++)
+        if (ours->items[4 * ((from + i) % m)] == 0) return (from + i) % m;
+    return NOWHERE;
+}
+
+/* The word of an animal at a place goes into a random free slot of her two buckets, or of the others. */
+static size_t plant_slot(uint64_t animal, size_t place, int at_home) {
+    uint32_t h = hash(animal), tag = h >> 24 ? h >> 24 : 1, first = h & (uint32_t)(n - 1);
+    uint32_t other = first ^ (((tag * 1540483477u) & (uint32_t)(n - 1)) | 1u);
+    for (size_t i = 0, from = below(4 * n); i < 4 * n; i++) {
+        size_t slot = (from + i) % (4 * n);
+        if (ours->slots[slot] != 0 || (slot / 4 == first || slot / 4 == other) != at_home) continue;
+        plant32(ours->slots + slot, tag << 16 | (uint32_t)place);
+        return slot;
+    }
+    return NOWHERE;
+}
+
+/* Plants a fault that breaks such a condition of a clean table, 2 to 8, and none before it. Returns whom it concerns, or
+   NOWHERE where the table has nobody for it. */
+static size_t plant(uint64_t condition) {
+    size_t slot = a_slot(1), vacant = a_vacant_place(), place = below(m), free;
+    uint32_t word = slot == NOWHERE ? 0 : ours->slots[slot], tag = 1 + (uint32_t)below(255);
+    size_t theirs = slot == NOWHERE ? NOWHERE : word & 65535; /* the place of an animal */
+    uint64_t *item = theirs < m ? ours->items + 4 * theirs : NULL;
+    switch (condition) {
+    case 2:
+        slot = below(4 * n);
+        switch (below(4)) {
+        case 0: plant32(ours->slots + slot, (uint32_t)(1 + below(65535))); break;
+        case 1: plant32(ours->slots + slot, (uint32_t)((256 + below(65280)) << 16 | place)); break;
+        case 2: plant32(ours->slots + slot, tag << 16 | (uint32_t)m); break;
+        default: plant32(ours->slots + slot, tag << 16 | (uint32_t)(m + below(65536 - m)));
+        }
+        return slot;
+    case 3:
+        slot = below(v);
+        plant32(ours->counters + slot, ours->counters[slot] + 1);
+        return slot;
+    case 4:
+        if (one_in(4)) { /* a vacant place, as if 0 were an animal, or with any tag */
+            if (vacant == NOWHERE || (free = plant_slot(0, vacant, 1)) == NOWHERE) return NOWHERE;
+            if (one_in(2)) plant32(ours->slots + free, tag << 16 | (uint32_t)vacant);
+            return free;
+        }
+        if (!item) return NOWHERE;
+        switch (below(3)) {
+        case 0: plant32(ours->slots + slot, (tag == word >> 16 ? tag % 255 + 1 : tag) << 16 | (uint32_t)theirs); return slot;
+        case 1: plant64(item, 0); return slot;
+        default: /* in a bucket that is not hers */
+            free = plant_slot(item[0], theirs, 0);
+            if (free != NOWHERE) plant32(ours->slots + slot, 0);
+            return free;
+        }
+    case 5:
+        switch (below(3)) {
+        case 0:
+            if (slot != NOWHERE) plant32(ours->slots + slot, 0);
+            return theirs;
+        case 1: return item && plant_slot(item[0], theirs, 1) != NOWHERE ? theirs : NOWHERE;
+        default: /* she may be held, too: 5 comes before 6 */
+            if (vacant != NOWHERE) plant64(ours->items + 4 * vacant, item && one_in(2) ? item[0] : any() | 1);
+            return vacant;
+        }
+    case 6:
+        if (!item || vacant == NOWHERE || plant_slot(item[0], vacant, 1) == NOWHERE) return NOWHERE;
+        plant64(ours->items + 4 * vacant, item[0]);
+        return theirs < vacant ? theirs : vacant;
+    case 7:
+        plant64(ours->items + 4 * place + 1, one_in(3) ? UINT64_C(1) << 32 : (1 + below(UINT32_MAX)) << 32 | tag);
+        return place;
+    default:
+        if (vacant != NOWHERE) plant64(ours->items + 4 * vacant + 1 + tag % 3, one_in(3) ? UINT32_MAX : 1 + below(9));
+        return vacant;
+    }
+}
+
+static void misjudged(const Call *q, BoughladderJudgement told, const char *who, uint64_t condition, size_t at, int kind) {
+    printf("DIFFERENCE of a verdict behind call %" PRIu64 ", seed %" PRIu64 ", memory %s%s, N %zu V %zu M %zu, %zu words planted\n",
+           calls, seed, kind_names[kind], clean ? ", clean" : "", n, v, m, kept_count);
+    printf("  lengths %zu %zu %zu\n  ours   condition %" PRIu32 " at %zu\n  %-6s condition %" PRIu64 " at %zu\n", q->sl,
+           q->cl, q->il, told.condition, told.at, who, condition, at);
+    exit(1);
+}
+
+/* The verdict on our memory. */
+static BoughladderJudgement judge(const Call *q, int what, int kind) {
+    const BoughladderTable t = {ours->slots, q->sl, ours->counters, q->cl, ours->items, q->il};
+    BoughladderJudgement told = boughladder_judge(t.slots, q->sl, t.counters, q->cl, t.items, q->il), two = second_judge(&t);
+    if (told.condition != two.condition || told.at != two.at) misjudged(q, told, "second", two.condition, two.at, kind);
+    if (one_in(1 + n * m / 1000)) {
+        BoughladderJudgement one = anchor_judge(t.slots, q->sl, t.counters, q->cl, t.items, q->il);
+        if (told.condition != one.condition || told.at != one.at) misjudged(q, told, "anchor", one.condition, one.at, kind);
+        by_anchor++;
+    }
+    by_verdict[what][told.condition]++;
+    return told;
+}
+
+/* The verdicts behind a call. */
+static void judge_all(int kind, int written) {
+    Call q;
+    memset(&q, 0, sizeof q);
+    q.call = SET, q.sl = 4 * n, q.cl = v, q.il = 4 * m;
+    if (clean ? written : one_in(4)) {
+        BoughladderJudgement told = judge(&q, clean ? LEFT_CLEAN : LEFT_OTHER, kind);
+        if (clean && (told.condition != 0 || told.at != 0)) misjudged(&q, told, "must", 0, 0, kind);
+    }
+    if (clean && one_in(8)) {
+        uint64_t condition = 1 + below(8);
+        size_t at;
+        if (condition == 1) {
+            do bend_lengths(&q, CLEAN);
+            while (one_in(2));
+            at = q.sl != 4 * n ? 0 : q.cl != v ? 1 : 2;
+        } else {
+            at = plant(condition);
+        }
+        if (at != NOWHERE) {
+            BoughladderJudgement told = judge(&q, PLANTED, kind);
+            if (told.condition != condition || told.at != at) misjudged(&q, told, "must", condition, at, kind);
+        }
+        put_back();
+    } else if (one_in(8)) {
+        do plant(2 + below(7));
+        while (kept_count < 16 && one_in(3));
+        if (one_in(4)) bend_lengths(&q, GARBAGE);
+        judge(&q, BENT, kind);
+        put_back();
+    }
+}
+
 static void episode(int large, int kind, uint64_t length) {
     if (large) {
         static const size_t shapes[][3] = {{2048, 1024, 4096}, {1024, 500, 4096}, {512, 1024, 4096}, {2048, 77, 4096}};
@@ -581,6 +764,13 @@ static void episode(int large, int kind, uint64_t length) {
         calls++;
         clean = stays_clean(&c, &told);
         audit(&c, kind, load, !large || i % LARGE_SHARE == 0);
+        if (!large || i % JUDGE_SHARE == 0) {
+            uint64_t drawn = state;
+            state = judge_state;
+            judge_all(kind, writes(&c) && told.refusal == 0);
+            judge_state = state;
+            state = drawn;
+        }
         for (int k = 1; k < TABLES; k++) {
             Reply other = make(&c, k);
             int same = memcmp(&told, &other, sizeof told) == 0 && memcmp(ours->block, tables[k].block, 8 * used) == 0;
@@ -625,6 +815,7 @@ int main(int argc, char **argv) {
     if (argc > 1) seed = strtoull(argv[1], NULL, 10);
     if (argc > 2) percent = strtoull(argv[2], NULL, 10);
     state = seed;
+    judge_state = ~seed;
     while (by_kind[CLEAN] + by_kind[CUT] + by_kind[POKED] < 30000 * percent)
         episode(0, (int)below(3), 1 + below(9000));
     while (by_kind[GARBAGE] < 10000 * percent) episode(0, GARBAGE, 1 + below(200));
@@ -665,6 +856,14 @@ int main(int argc, char **argv) {
            "  shorter items %" PRIu64, plains[0].last, plains[0].standing, plains[0].wide, plains[0].twins, plains[0].shorter);
     printf("\n    where read says:");
     for (int i = 0; i < BESIDES; i++) printf("  %s %" PRIu64, beside_names[i], by_beside[i]);
+    printf("\njudged behind the calls, on M 4096 behind one in %d, by ours and second alike, and %" PRIu64 " times by anchor too:",
+           JUDGE_SHARE, by_anchor);
+    for (int i = 0; i < JUDGED; i++) {
+        uint64_t all = 0;
+        for (int k = 0; k < 9; k++) all += by_verdict[i][k];
+        printf("\n  %s %" PRIu64 ":  yes: %" PRIu64, judged_names[i], all, by_verdict[i][0]);
+        for (int k = 1; k < 9; k++) printf("  %d: %" PRIu64, k, by_verdict[i][k]);
+    }
     printf("\nmoves of new entries:");
     for (int i = 0; i < 5; i++) printf("  %d: %" PRIu64, i, by_moves[i]);
     printf("\nmost visits: %" PRIu64 "\ncut calls that were not refused: %" PRIu64 "\n", most_visits, stopped_cuts);

@@ -12,7 +12,7 @@
 #define COUNTERS_MOST 1024
 #define ITEMS_MOST 4096
 #define BUFFER_MOST 81920
-#define WORDS 9 /* one more than the longest call has, so that a word too many is seen */
+#define WORDS 9 /* one more than the longest call has, a run aside, so that a word too many is seen */
 
 /* The longest answer is a dump of the largest table: 11 characters for a 32-bit word with its space, 21 for a 64-bit one. */
 #define ANSWER_MOST (64 + 11 * (SLOTS_MOST + COUNTERS_MOST) + 21 * ITEMS_MOST)
@@ -234,6 +234,55 @@ static int dump(const Word *words, size_t count) {
     return 1;
 }
 
+/* Digits and letters are all above '#', so that one comparison is enough for them. */
+static inline int in_word(unsigned char c) { return c > '#' || (c != ' ' && c != '\t' && c != '#'); }
+
+/* The next word; its length is 0 where the line has no more. */
+static inline Word next_word(const char *at, const char *end) {
+    while (at < end && (*at == ' ' || *at == '\t')) at++;
+    Word word = {at, 0};
+    while (at < end && in_word((unsigned char)*at)) at++;
+    word.length = (size_t)(at - word.at);
+    return word;
+}
+
+static int is_run(Word name) { return is(name, "slots") || is(name, "counters") || is(name, "items"); }
+
+/* A run's words, however many follow its name. They are put into the run when all of them are understood. */
+static int load(Word name, const char *end) {
+    static uint64_t words[SLOTS_MOST];
+    int to_slots = is(name, "slots"), to_counters = is(name, "counters");
+    size_t most = to_slots ? SLOTS_MOST : to_counters ? COUNTERS_MOST : ITEMS_MOST, length = 0;
+    for (Word word = name; (word = next_word(word.at + word.length, end)).length > 0;) {
+        uint64_t number;
+        if (!number_of(word, to_slots || to_counters ? UINT32_MAX : UINT64_MAX, &number)) return 0;
+        if (length < most) words[length] = number;
+        length++;
+    }
+    if (tell_refusal(length > most ? BOUGHLADDER_BAD_SHAPE : BOUGHLADDER_OK)) return 1;
+    for (size_t i = 0; i < length; i++) {
+        if (to_slots) slots[i] = (uint32_t)words[i];
+        else if (to_counters) counters[i] = (uint32_t)words[i];
+        else items[i] = words[i];
+    }
+    *(to_slots ? &slots_length : to_counters ? &counters_length : &items_length) = length;
+    TELL("loaded");
+    return 1;
+}
+
+static int judge(const Word *words, size_t count) {
+    if (!ends_at(words, count, 0)) return 0;
+    BoughladderJudgement j = anchor_judge(TABLE);
+    if (j.condition == 0) {
+        TELL("yes");
+    } else {
+        TELL("no");
+        tell_next(j.condition);
+        tell_next(j.at);
+    }
+    return 1;
+}
+
 static int set_hand(const Word *words, size_t count) {
     uint64_t set;
     if (!numbers_of(words, count, 1, &set)) return 0;
@@ -248,7 +297,8 @@ static int cut(const Word *words, size_t count) {
     return count > 1 ? write_call(words + 1, count - 1, &k) : misunderstood("too few numbers");
 }
 
-static int answer(const Word *words, size_t count) {
+/* The words, and where their line ends: a run may have more of them. */
+static int answer(const Word *words, size_t count, const char *end) {
     if (is(words[0], "serve")) return ask(words + 1, count - 1, SERVE);
     if (is(words[0], "read")) return ask(words + 1, count - 1, READ);
     if (is(words[0], "cut")) return cut(words + 1, count - 1);
@@ -258,6 +308,8 @@ static int answer(const Word *words, size_t count) {
     if (is(words[0], "dump")) return dump(words + 1, count - 1);
     if (is(words[0], "hand")) return set_hand(words + 1, count - 1);
     if (is(words[0], "plain")) return ask(words + 1, count - 1, PLAIN);
+    if (is(words[0], "judge")) return judge(words + 1, count - 1);
+    if (is_run(words[0])) return load(words[0], end);
     return write_call(words, count, NULL);
 }
 
@@ -265,19 +317,21 @@ static int answer(const Word *words, size_t count) {
 static void tell_call(uint64_t number, const Word *words, size_t count) {
     tell_number(number);
     TELL(":");
-    for (size_t i = 0; i < count; i++) {
+    int run = is_run(words[0]);
+    for (size_t i = 0; i < (run ? 1 : count); i++) {
         Word word = words[i];
         while (word.length > 1 && *word.at == '0') word.at++, word.length--;
         *out++ = ' ';
         tell(word.at, word.length < ECHO_WORD ? word.length : ECHO_WORD);
     }
+    if (run) TELL(" ..");
     TELL(" -> ");
 }
 
-static void tell_line(uint64_t number, const Word *words, size_t count) {
+static void tell_line(uint64_t number, const Word *words, size_t count, const char *end) {
     char *start = out;
     if (echo) tell_call(number, words, count);
-    if (!answer(words, count)) {
+    if (!answer(words, count, end)) {
         out = start;
         status = 2;
         TELL("line");
@@ -288,17 +342,12 @@ static void tell_line(uint64_t number, const Word *words, size_t count) {
     *out++ = '\n';
 }
 
-/* Digits and letters are all above '#', so that one comparison is enough for them. */
-static inline int in_word(unsigned char c) { return c > '#' || (c != ' ' && c != '\t' && c != '#'); }
-
 static size_t split(const char *at, const char *end, Word *words) {
     size_t count = 0;
     while (count < WORDS) {
-        while (at < end && (*at == ' ' || *at == '\t')) at++;
-        if (at == end || *at == '#') break;
-        words[count].at = at;
-        while (at < end && in_word((unsigned char)*at)) at++;
-        words[count].length = (size_t)(at - words[count].at);
+        words[count] = next_word(at, end);
+        if (words[count].length == 0) break;
+        at = words[count].at + words[count].length;
         count++;
     }
     return count;
@@ -317,7 +366,7 @@ static int replay(const char *at, const char *end) {
         if (stop > at && stop[-1] == '\r') stop--; /* docs/DECISIONS.md: of a last line without LF, too */
         size_t count = split(at, stop, words);
         if (count > 0) {
-            tell_line(number, words, count);
+            tell_line(number, words, count, stop);
             if (out > answers + sizeof answers - ECHO_MOST - ANSWER_MOST && !hand_out()) return 0;
         }
         at = feed ? feed + 1 : end;

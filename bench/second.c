@@ -1,6 +1,8 @@
 /* second.c: the order's rules in plain C once more. See second.h. */
 #include "second.h"
 
+#include <string.h>
+
 #define STANDING UINT64_MAX
 #define FAR (UINT64_C(1) << 62) /* minutes beyond the limit; beyond them the answer stays the same */
 #define VISITS 682  /* 2 + 8 + 32 + 128 + 512 */
@@ -237,4 +239,89 @@ BoughladderReading second_plain_read(const BoughladderTable *t, uint64_t animal,
     r.permission = (uint32_t)item[1];
     r.left = (int64_t)limit - (int64_t)age;
     return r;
+}
+
+static inline BoughladderJudgement no(uint32_t condition, size_t at) { return (BoughladderJudgement){condition, at}; }
+
+/* Whether an occupied slot points to a live place whose animal has its tag, and its bucket as one of her two. */
+static inline uint32_t leads_home(const BoughladderTable *t, uint32_t slot) {
+    uint32_t n = (uint32_t)(t->slots_length / 4), word = t->slots[slot], tag = word >> 16;
+    uint64_t animal = t->items[4 * (word & 65535)];
+    uint32_t h = fnv1a(animal), hers = (h >> 24) + (h >> 24 == 0), away = (h & (n - 1)) ^ slot / 4;
+    return (uint32_t)(animal != 0) & (uint32_t)(tag == hers) & ((uint32_t)(away == 0) | (uint32_t)(away == spread(tag, n)));
+}
+
+static inline uint32_t with_tag(const uint32_t *four, uint32_t tag) {
+    return (uint32_t)(four[0] >> 16 == tag) + (four[1] >> 16 == tag) + (four[2] >> 16 == tag) + (four[3] >> 16 == tag);
+}
+
+/* Each walk gathers without a branch whether its condition is broken; only then it is looked for who breaks it. Where 4
+   holds, no place is pointed to by more than eight slots. Where 5 holds too, twins lie in one pair of buckets. */
+BoughladderJudgement second_judge(const BoughladderTable *t) {
+    if (!good_shape(t)) {
+        size_t words = t->slots_length;
+        if (words < 8 || words > 8192 || (words & (words - 1)) != 0) return no(1, 0);
+        return no(1, t->counters_length < 1 || t->counters_length > 1024 ? 1 : 2);
+    }
+    const uint32_t *slots = t->slots, n = (uint32_t)(t->slots_length / 4), m = (uint32_t)(t->items_length / 4);
+    const uint64_t *items = t->items;
+
+    uint32_t bad = 0, odd = 0, i;
+    for (i = 0; i < 4 * n; i++) bad |= damaged(slots[i], m);
+    if (bad)
+        for (i = 0;; i++)
+            if (damaged(slots[i], m)) return no(2, i);
+    for (i = 0; i < t->counters_length; i++) odd |= t->counters[i];
+    if (odd & 1)
+        for (i = 0;; i++)
+            if (t->counters[i] & 1) return no(3, i);
+
+    uint16_t occupied[8192];
+    uint8_t pointing[4096]; /* slots, by place */
+    uint32_t count = 0, good = 1;
+    memset(pointing, 0, m);
+    for (i = 0; i < 4 * n; i++) {
+        occupied[count] = (uint16_t)i;
+        count += slots[i] != 0;
+    }
+    for (i = 0; i < count; i++) {
+        good &= leads_home(t, occupied[i]);
+        pointing[slots[occupied[i]] & 65535]++;
+    }
+    if (!good)
+        for (i = 0;; i++)
+            if (!leads_home(t, occupied[i])) return no(4, occupied[i]);
+
+    uint64_t wide = 0, stray = 0;
+    bad = 0;
+    for (i = 0; i < m; i++) { /* 5, 7 and 8 */
+        const uint64_t *item = items + 4 * i;
+        uint32_t live = item[0] != 0;
+        bad |= live ^ pointing[i];
+        wide |= item[1] >> 32;
+        stray |= (item[1] | item[2] | item[3]) & ((uint64_t)live - 1);
+    }
+    if (bad)
+        for (i = 0;; i++)
+            if ((items[4 * i] != 0) != pointing[i]) return no(5, i);
+
+    uint32_t twin = m;
+    for (i = 0; i < count; i++) {
+        uint32_t slot = occupied[i], word = slots[slot], tag = word >> 16, place = word & 65535;
+        const uint32_t *own = slots + slot / 4 * 4, *other = slots + 4 * (slot / 4 ^ spread(tag, n));
+        if (with_tag(own, tag) + with_tag(other, tag) == 1) continue; /* nobody else has her tag here */
+        for (int k = 0; k < 8; k++) {
+            uint32_t like = k < 4 ? own[k] : other[k - 4];
+            if (like >> 16 != tag || like == word || items[4 * (like & 65535)] != items[4 * place]) continue;
+            twin = smaller(twin, place);
+        }
+    }
+    if (twin < m) return no(6, twin);
+    if (wide)
+        for (i = 0;; i++)
+            if (items[4 * i + 1] >> 32) return no(7, i);
+    if (stray)
+        for (i = 0;; i++)
+            if (items[4 * i] == 0 && (items[4 * i + 1] | items[4 * i + 2] | items[4 * i + 3])) return no(8, i);
+    return no(0, 0);
 }

@@ -1,6 +1,6 @@
 /*
  * second.h: another table by the order's rules in plain C, for the calls that a gate makes most: read, serve, set and delete;
- * and the auditor's plain read.
+ * and the auditor's plain read, and the judge of a dump.
  * It takes the table as one struct, so that a call has few arguments. That and the replies have boughladder.h's types.
  */
 #ifndef SECOND_H
@@ -14,5 +14,6 @@ BoughladderSetting second_set(const BoughladderTable *table, uint64_t animal, ui
                               uint32_t standing);
 uint32_t second_delete(const BoughladderTable *table, uint64_t animal);
 BoughladderReading second_plain_read(const BoughladderTable *table, uint64_t animal, uint64_t limit, uint64_t now);
+BoughladderJudgement second_judge(const BoughladderTable *table);
 
 #endif

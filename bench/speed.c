@@ -3,6 +3,8 @@
  * The tables hold the same herd in memory of their own and get the same calls. Each round times one portion of calls on
  * each, another one first each time; the best round of each counts. The answers are summed up and must be equal at the end,
  * and so must all words. The second C table has no evict and no list. Use: speed [rounds].
+ * A judge gets dumps of the largest table, N 2,048, with some of the 4,096 places live; the anchor's, which tries all pairs,
+ * is left out.
  */
 #include "anchor.h"
 #include "herd.h"
@@ -176,6 +178,31 @@ static void time_all(const char *name, unsigned load, Work *const *works) {
     row(name, load, works, best);
 }
 
+/* A dump with so many percent of the places live, which is a yes. Nothing is written, so one memory is enough. */
+static void time_judge(const char *name, unsigned load) {
+    static uint32_t slots[8192], counters[1024];
+    static uint64_t items[4 * M];
+#define DUMP slots, 8192, counters, 1024, items, 4 * M
+    const BoughladderTable second = {DUMP};
+    Best best = none;
+    uint64_t noes = boughladder_fresh(DUMP);
+    for (size_t live = 0; live < (size_t)M * load / 100;)
+        live += boughladder_set(DUMP, any(), (uint32_t)live, NOW, NOW, 0).refusal == 0;
+    for (int i = 0; i < 2 * rounds; i++) {
+        int who = (i + i / 2) % 2 ? SECOND : OURS; /* another one first each time */
+        double start = now_ns();
+        BoughladderJudgement j = who == OURS ? boughladder_judge(DUMP) : second_judge(&second);
+        double spent = now_ns() - start;
+        if (spent < best.of[who]) best.of[who] = spent;
+        noes += j.condition;
+    }
+    printf("| %s | %u %% | %.1f |  | %.1f | %.2f |\n", name, load, best.of[OURS], best.of[SECOND], best.of[OURS] / best.of[SECOND]);
+    if (noes != 0) {
+        printf("DIFFERENCE: a no\n");
+        exit(1);
+    }
+}
+
 int main(int argc, char **argv) {
     static const unsigned loads[] = {25, 50, 75, 90, 95};
     if (argc > 1) rounds = atoi(argv[1]);
@@ -234,5 +261,8 @@ int main(int argc, char **argv) {
     row("evict, places 0 to 2,047 vacant, hand behind them", 45, evicts, best);
     fill(90);
     time_all("list, whole", 90, lists);
+    time_judge("judge of a dump, N 2,048, all places live", 100);
+    time_judge("judge of a dump, N 2,048, half of them", 50);
+    time_judge("judge of a dump, N 2,048, all vacant", 0);
     return 0;
 }

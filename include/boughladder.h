@@ -25,11 +25,11 @@
  * milking, else bit 1 grazing, else holding. Every other answer and every refusal means holding. boughladder_lane says
  * all of this.
  *
- * One call at a time. No call, not even read, plain read, find or list, may run while a writing call runs on the same
- * table. Fresh, set, delete, evict and their cut forms write, and so does serve. Put one mutex around every call, as
- * examples/c/antenna.c does; examples/c/torn.c shows the wrong answers that come without it. Reads, plain reads, finds
- * and lists beside each other are fine. Refusal 8 (busy) is no lock: it tells of a write that was cut off, not of one
- * under way.
+ * One call at a time. No call, not even read, plain read, find, list or judge, may run while a writing call runs on the
+ * same table. Fresh, set, delete, evict and their cut forms write, and so does serve. Put one mutex around every call,
+ * as examples/c/antenna.c does; examples/c/torn.c shows the wrong answers that come without it. Reads, plain reads,
+ * finds, lists and judges beside each other are fine. Refusal 8 (busy) is no lock: it tells of a write that was cut
+ * off, not of one under way.
  *
  * The cut forms make only the first k stores of their call and answer as the whole call does: they show what a loss of
  * power leaves. A counter left odd by a cut makes its animals busy (refusal 8), and they stay busy until fresh.
@@ -63,19 +63,21 @@
 #include <stdint.h>
 
 /* This header's version, as text and as numbers. The archive has none to ask for: ship both from one release.
+   A caller of 3.0.0 needs no change: judge joins.
    A caller of 2.x that reads the age does not compile: left is the limit minus the age. Any other needs no change.
    Don't only rename it: left <= limit is true of absent, ahead and refused, and with a signed limit of old as well.
    Test kind, or ask boughladder_lane.
    A caller of 1.0.0 does not compile: each set takes one minute more, and over a table a standing one takes two.
-   Compile and link everything again. What is mixed does link (only plain read is missing before 2.1.0):
+   Compile and link everything again. What is mixed does link (only judge is missing before 3.1.0, plain read before
+   2.1.0):
      - what was compiled with 2.x takes what is left for the age: in its last good minute a permission looks new;
      - this header with an archive of 2.x takes the age for what is left: an old permission has minutes left;
      - what was compiled with 1.0.0 passes a set's numbers one place off, and so does this header to the archive of
        1.0.0, which takes now for standing: every permission is then fresh for ever.
    Refusal, kind, permission and lane are right in the first two. */
-#define BOUGHLADDER_VERSION "3.0.0"
+#define BOUGHLADDER_VERSION "3.1.0"
 #define BOUGHLADDER_VERSION_MAJOR 3
-#define BOUGHLADDER_VERSION_MINOR 0
+#define BOUGHLADDER_VERSION_MINOR 1
 #define BOUGHLADDER_VERSION_PATCH 0
 
 /* Sizes: words of slots for n buckets, words of items for m places, bytes of a whole list of m places. V counters are
@@ -158,6 +160,19 @@ enum BoughladderKind {
     BOUGHLADDER_AT_PLACE = 9  /* find: the animal is held at a place */
 };
 
+/* What judge found: the first condition that is broken, in this order, and what at then is. */
+enum BoughladderCondition {
+    BOUGHLADDER_SOUND = 0,             /* none is broken: a yes */
+    BOUGHLADDER_WRONG_LENGTH = 1,      /* a length is not as above; the run: 0 slots, 1 counters, 2 items */
+    BOUGHLADDER_DAMAGED_WORD = 2,      /* a word that no call writes; its slot */
+    BOUGHLADDER_ODD_COUNTER = 3,       /* a write was cut off; the counter */
+    BOUGHLADDER_STRAY_SLOT = 4,        /* the slot's place holds no animal, or one with another tag or other buckets */
+    BOUGHLADDER_NOT_ONE_SLOT = 5,      /* no slot points to a place that is taken, or several do; the place */
+    BOUGHLADDER_TWIN = 6,              /* another place holds the same animal; the place */
+    BOUGHLADDER_WIDE_PERMISSION = 7,   /* a permission above 32 bits, where taken or vacant; the place */
+    BOUGHLADDER_VACANT_NOT_ZERO = 8    /* a vacant place whose other words are not all 0; the place */
+};
+
 /* Where an animal goes. */
 enum BoughladderLane { BOUGHLADDER_HOLDING = 0, BOUGHLADDER_MILKING = 1, BOUGHLADDER_GRAZING = 2 };
 
@@ -200,6 +215,12 @@ typedef struct BoughladderListing {
     size_t count;  /* records written, 20 bytes each */
 } BoughladderListing;
 
+/* Judge, which refuses nothing. */
+typedef struct BoughladderJudgement {
+    uint32_t condition;  /* 0: a yes; else the first condition that is broken, 1 to 8 */
+    size_t at;           /* the lowest run, slot, counter or place that breaks it; 0 of a yes */
+} BoughladderJudgement;
+
 /* One record of a list. */
 typedef struct BoughladderRecord {
     uint64_t animal;
@@ -213,7 +234,7 @@ typedef struct BoughladderRecord {
  */
 
 /* Makes a table of the three runs: 0 in every word. The reply is the refusal number, 0 or 1.
-   It is the first call on any memory, and the only one that helps a busy counter. */
+   It is the first call on any memory but one that judge says yes to, and the only one that helps a busy counter. */
 BOUGHLADDER_MUST_USE
 uint32_t boughladder_fresh(uint32_t *slots, size_t slots_length, uint32_t *counters, size_t counters_length,
                            uint64_t *items, size_t items_length);
@@ -297,12 +318,21 @@ BOUGHLADDER_MUST_USE
 BoughladderReading boughladder_plain_read(const uint64_t *items, size_t items_length, uint64_t animal, uint64_t limit,
                                           uint64_t now);
 
+/* Judges memory that others have built or that a cabinet brings: a yes, condition 0, exactly if none of the eight
+   conditions is broken; else the first that is, and where. What our finished calls leave, from fresh on, gets a yes.
+   After a yes, whoever built the table, it answers from then on as the order demands; it needs no fresh. Stamps are no
+   condition, and the hand is not in the memory. It refuses nothing and stores nothing. A full table takes less than a
+   millisecond. */
+BOUGHLADDER_MUST_USE
+BoughladderJudgement boughladder_judge(const uint32_t *slots, size_t slots_length, const uint32_t *counters,
+                                       size_t counters_length, const uint64_t *items, size_t items_length);
+
 /* One byte of the 32-bit FNV-1a hash, which decides an animal's buckets: start with h = 2166136261.
    For tests of a cabinet against the published vectors. */
 uint32_t boughladder_fnv_byte(uint32_t h, uint8_t byte);
 
-/* The lent memory in one piece. Read, plain read, find and list take a pointer to const; any other call through one is
-   a warning, in C++ an error. */
+/* The lent memory in one piece. Read, plain read, find, list and judge take a pointer to const; any other call through
+   one is a warning, in C++ an error. */
 typedef struct BoughladderTable {
     uint32_t *slots;
     size_t slots_length;
@@ -314,8 +344,8 @@ typedef struct BoughladderTable {
 
 /* A table of three arrays, to begin a BoughladderTable with; it works out the lengths.
    Slots and counters that are swapped do not compile. Neither do a pointer for an array, an array of another type, a
-   wrong length, and more counters than buckets. The library takes such counters, but no call looks at those behind the
-   first N; to shut them out is what tells a swap. Memory from malloc: fill the fields by name. */
+   wrong length, and more counters than buckets. The library takes such counters, but only judge looks at those behind
+   the first N; to shut them out is what tells a swap. Memory from malloc: fill the fields by name. */
 #define BOUGHLADDER_TABLE(slots, counters, items)                                                                 \
     {                                                                                                             \
         (slots), BOUGHLADDER_WORDS_(slots, uint32_t), (counters), BOUGHLADDER_WORDS_(counters, uint32_t), (items), \
@@ -431,6 +461,11 @@ static inline BoughladderReading boughladder_table_plain_read(const BoughladderT
     return boughladder_plain_read(table->items, table->items_length, animal, limit, now);
 }
 
+BOUGHLADDER_MUST_USE
+static inline BoughladderJudgement boughladder_table_judge(const BoughladderTable *table) {
+    return boughladder_judge(BOUGHLADDER_LENT_(table));
+}
+
 /*
  * What to make of the replies.
  */
@@ -460,6 +495,22 @@ static inline const char *boughladder_refusal_text(uint32_t refusal) {
         case BOUGHLADDER_NO_VICTIM: return "the hand found no victim";
         case BOUGHLADDER_LATE: return "late: a permission that was issued later is held";
         default: return "no refusal number";
+    }
+}
+
+/* A judgement's condition as a short sentence. */
+static inline const char *boughladder_condition_text(uint32_t condition) {
+    switch (condition) {
+        case BOUGHLADDER_SOUND: return "sound";
+        case BOUGHLADDER_WRONG_LENGTH: return "a run has a wrong length";
+        case BOUGHLADDER_DAMAGED_WORD: return "a slot word is damaged";
+        case BOUGHLADDER_ODD_COUNTER: return "a counter is odd";
+        case BOUGHLADDER_STRAY_SLOT: return "a slot does not point to an animal that belongs there";
+        case BOUGHLADDER_NOT_ONE_SLOT: return "not exactly one slot points to a place that is taken";
+        case BOUGHLADDER_TWIN: return "two places hold the same animal";
+        case BOUGHLADDER_WIDE_PERMISSION: return "a permission does not fit 32 bits";
+        case BOUGHLADDER_VACANT_NOT_ZERO: return "a vacant place is not all zero";
+        default: return "no condition number";
     }
 }
 

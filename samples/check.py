@@ -4,7 +4,7 @@
     python3 samples/check.py [--echo] [FILE]      (no FILE, or -: standard input)
 
 It prints the answers that `./replay` must print, and ends with its status. It
-was written from the order, its change requests (wishes 1 to 4 have landed) and
+was written from the order, its change requests (wishes 1 to 5 have landed) and
 docs/replay-format.md only, not from the Rattle code, so that the two can disagree.
 Every call first works out its answer and the list of its stores without
 touching the table; then the first k stores are made. So the cut form and the
@@ -14,7 +14,7 @@ import sys
 
 TOP = 2**64 - 1                   # the standing mark; also the largest number
 LEAST_LEFT = -2**62               # who is overdue for longer is told this too
-SLOTS_MAX, COUNTERS_MAX, ITEMS_MAX = 8192, 1024, 4096     # what replay holds
+HOLDS = {'slots': 8192, 'counters': 1024, 'items': 4096}  # words: the most that replay holds
 BUFFER_MAX = 81920
 FILE_MAX = 2 * 2**20
 
@@ -45,11 +45,16 @@ class Refused(Exception):
     """A refusal: one number, no store, the hand as passed."""
 
 
-def good_shape(s, c, i):
+def good_lengths(s, c, i):
+    """Of each run, whether its length is right."""
     n, m = s // 4, i // 4
-    return (s % 4 == 0 and 2 <= n <= 2048 and n & (n - 1) == 0
-            and 1 <= c <= 1024
-            and i % 4 == 0 and 1 <= m <= 4096)
+    return (s % 4 == 0 and 2 <= n <= 2048 and n & (n - 1) == 0,
+            1 <= c <= 1024,
+            i % 4 == 0 and 1 <= m <= 4096)
+
+
+def good_shape(s, c, i):
+    return all(good_lengths(s, c, i))
 
 
 # ---- The table -------------------------------------------------------------
@@ -66,6 +71,10 @@ class Table:
                 self.counters[index] = (self.counters[index] + 1) % 2**32
             else:
                 getattr(self, run)[index] = word
+
+    def load(self, run, words):
+        setattr(self, run, words)
+        self.n, self.m = len(self.slots) // 4, len(self.items) // 4
 
     # -- small words of the order
 
@@ -266,18 +275,48 @@ class Table:
             lines.append(record.hex())
         return '\n'.join(lines)
 
+    # -- the judge: the plain text of its eight conditions, one after the other
+
+    def leads_home(self, slot):
+        """A live place whose animal has that tag and that bucket as one of its two."""
+        tag, place = divmod(self.slots[slot], 65536)
+        animal = self.items[4 * place]
+        return animal != 0 and tag == tag_of(animal) and slot // 4 in self.homes(animal)
+
+    def broken(self):
+        """Of each condition, in its turn, who breaks it, the lowest first."""
+        lengths = len(self.slots), len(self.counters), len(self.items)
+        yield [run for run, good in enumerate(good_lengths(*lengths)) if not good]
+        occupied = [s for s, word in enumerate(self.slots) if word != 0]
+        places, live = range(self.m), self.live()
+        yield [s for s in occupied if self.damaged(self.slots[s])]
+        yield [c for c, count in enumerate(self.counters) if count % 2 != 0]
+        yield [s for s in occupied if not self.leads_home(s)]
+        yield [p for p in live if sum(self.slots[s] % 65536 == p for s in occupied) != 1]
+        yield [p for p in live for q in live if p != q and self.items[4 * p] == self.items[4 * q]]
+        yield [p for p in places if self.items[4 * p + 1] >= 2**32]
+        yield [p for p in places if self.items[4 * p] == 0 and any(self.items[4 * p:4 * p + 4])]
+
+    def judge(self):
+        for condition, breakers in enumerate(self.broken(), 1):
+            if breakers:                     # the later ones are not looked at
+                return f'no {condition} {breakers[0]}'
+        return 'yes'
+
 
 # ---- The replay language ---------------------------------------------------
 
 # Every form of a line, in the page's order: N is a number, P a permission, B the
-# length of a buffer, any other word stands for itself.
+# length of a buffer, W a word of 32 bits, any other word stands for itself. What
+# stands before .. comes as often as the line has words for it.
 FORMS = [form.split() for form in (
     'fresh N N N', 'set N P N N', 'set N P N N standing', 'read N N N',
     'serve N N N', 'plain N N N', 'delete N', 'evict', 'hand N',
     'cut N set N P N N', 'cut N set N P N N standing', 'cut N delete N',
     'cut N evict', 'list B', 'poke slots N N', 'poke counters N N',
-    'poke items N N', 'dump', '')]
-MOST = {'N': TOP, 'P': 2**32 - 1, 'B': BUFFER_MAX}
+    'poke items N N', 'dump', 'slots W ..', 'counters W ..', 'items N ..', 'judge',
+    '')]
+MOST = {'N': TOP, 'P': 2**32 - 1, 'B': BUFFER_MAX, 'W': 2**32 - 1}
 
 
 class NotUnderstood(Exception):
@@ -310,14 +349,20 @@ def agreement(form, words):
     return call
 
 
+def as_long(form, words):
+    """The form for a line of so many words."""
+    return [form[0]] + [form[1]] * (len(words) - 1) if form[-1:] == ['..'] else form
+
+
 def understood(words):
     """The line's call, or why it is none."""
-    agreed = [len(agreement(form, words)) for form in FORMS]
+    forms = [as_long(form, words) for form in FORMS]
+    agreed = [len(agreement(form, words)) for form in forms]
     most = max(agreed)
-    for form, count in zip(FORMS, agreed):
+    for form, count in zip(forms, agreed):
         if count == len(form) == len(words):
             return agreement(form, words)
-    nearest = FORMS[agreed.index(most)]
+    nearest = forms[agreed.index(most)]
     if most == len(words):
         raise NotUnderstood('too few numbers')
     if digits_only(words[most]):
@@ -345,11 +390,10 @@ class Replay:
         if name == 'plain':
             return t.plain(*rest)
         if name == 'fresh':
-            s, c, i = rest
-            if s > SLOTS_MAX or c > COUNTERS_MAX or i > ITEMS_MAX \
-                    or not good_shape(s, c, i):
+            held = all(length <= most for length, most in zip(rest, HOLDS.values()))
+            if not held or not good_shape(*rest):
                 raise Refused(1)
-            self.table, self.hand = Table(s, c, i), 0
+            self.table, self.hand = Table(*rest), 0
             return 'fresh'
         if name == 'hand':
             self.hand = rest[0]
@@ -363,9 +407,16 @@ class Replay:
                 return 'no such word'
             run[index] = word
             return 'poked'
+        if name in HOLDS:
+            if len(rest) > HOLDS[name]:
+                raise Refused(1)
+            t.load(name, rest)
+            return 'loaded'
+        if name == 'judge':
+            return t.judge()
         assert name == 'dump'
         return '\n'.join(' '.join([run] + [str(w) for w in getattr(t, run)])
-                         for run in ('slots', 'counters', 'items'))
+                         for run in HOLDS)
 
     def stores(self, name, rest, k):
         """Set, delete or evict, of which the first k stores are made."""
@@ -387,6 +438,11 @@ def words_of(line):
     return [w for w in words if w]
 
 
+def shown(call):
+    """The call as it was understood; the words of a run are not shown again."""
+    return f'{call[0]} ..' if call[0] in HOLDS else ' '.join(map(str, call))
+
+
 def replay(data, echo=False):
     """For each call what is printed, and whether it was understood."""
     r = Replay()
@@ -405,7 +461,7 @@ def replay(data, echo=False):
             answer = r.answer(call)
         except Refused as refusal:
             answer = f'refused {refusal}'
-        before = f'{number}: {" ".join(map(str, call))} -> ' if echo else ''
+        before = f'{number}: {shown(call)} -> ' if echo else ''
         yield before + answer, True
 
 

@@ -6,9 +6,9 @@
                                            fresh random files: good lines, bad ones of every kind, odd line ends
 
 The status must be 2 if some line is not understood, else 0. A file on which they differ is kept in target/.
-And where plain and read ask the same, one right behind the other, their answers must be the same on a table that
-finished calls have made; and what is left is 0 or more where fresh, below 0 where old, and in its range. Both are told
-by the replay program's answers alone.
+And a table that finished calls have made, from fresh or from one that was judged good, must be judged good; where plain
+and read ask the same on it, one right behind the other, their answers must be the same; and what is left is 0 or more
+where fresh, below 0 where old, and in its range. All is told by the replay program's answers alone.
 """
 import pathlib
 import random
@@ -17,10 +17,15 @@ import subprocess
 import sys
 
 TOP = pathlib.Path(__file__).resolve().parent.parent
+sys.path.insert(0, str(TOP / 'samples'))
+sys.dont_write_bytecode = True
+import check  # noqa: E402
+
 MARK = b'\xef\xbb\xbf'
-WORDS = b'fresh set read serve plain delete evict hand cut list poke dump slots counters items standing'.split()
+WORDS = b'fresh set read serve plain delete evict hand cut list poke dump slots counters items standing judge'.split()
 WHOLE = 1024 + 7  # the most stores that a call can have to make: an evict that clears every place of the largest table
-PAIRS = {True: [0, 0], False: [0, 0]}  # plain beside read, on tables of finished calls and on others: all, the unlike
+PAIRS = {True: [0, 0], False: [0, 0]}  # plain beside read, on good tables and on others: all, the unlike
+VERDICTS = dict.fromkeys(['yes', *('no %d' % n for n in range(1, 9))], 0)
 FAR = 2**62  # minutes overdue; beyond them the answer stays the same
 LEFT = dict.fromkeys(['the whole limit', 'limit 0', '1', '0', '-1', '-2^62 + 1', '-2^62'], 0)  # answers that tell so
 
@@ -31,8 +36,8 @@ def run(command, data):
 
 
 def unlike(echoed):
-    """Counts the pairs; of those on a table of finished calls the first with two answers, if there is one."""
-    clean, before = True, None
+    """Counts the verdicts and the pairs; the first no, or pair with two answers, on a good table, if there is one."""
+    clean, before = False, None
     for line in re.findall(rb'^\d+: (.*) -> (.*)$', echoed, re.M):
         call, answer = line[0].split(b' '), line[1]
         if before and {before[0][0], call[0]} == {b'read', b'plain'} and before[0][1:] == call[1:]:
@@ -40,9 +45,13 @@ def unlike(echoed):
             PAIRS[clean][1] += before[1] != answer
             if clean and before[1] != answer:
                 return 'read and plain differ: %r -> %r, and then %r' % (b' '.join(before[0]), before[1], answer)
-        if call[0] == b'fresh' and answer == b'fresh':
+        if call[0] == b'judge':
+            VERDICTS[answer.rpartition(b' ')[0].decode() or 'yes'] += 1
+            if clean and answer != b'yes':
+                return 'a table that finished calls have made is judged %r' % answer
+        if answer in (b'yes', b'fresh'):
             clean = True
-        elif answer == b'poked' or call[0] == b'cut' and int(call[1]) < WHOLE:
+        elif answer in (b'poked', b'loaded') or call[0] == b'cut' and int(call[1]) < WHOLE:
             clean = False
         before = call, answer
     return None
@@ -102,7 +111,8 @@ class Day:
                      for n in range(self.r.choice([6, 30, 90]))]
         self.now = self.r.choice([0, 100, 2**40])
         self.last, self.issues = self.pool[0], {}  # the animal of the last set; each animal's last minute of issue
-        self.again = None  # the second call of a pair
+        self.coming = []  # the calls that are to follow
+        self.there = check.Replay()  # the table as it stands after the lines so far
         # With cuts most calls are refused 8, so some days have pokes alone, to reach what comes after 8.
         self.cuts, self.pokes = self.r.choice([(False, False), (False, True), (True, True)])
         self.shape()
@@ -185,14 +195,94 @@ class Day:
         if self.one_in(3):
             return ['serve', animal, limit, now]
         first, second = self.r.sample(['read', 'plain'], 2)
-        self.again = [second, animal, limit, now]
+        self.coming = [[second, animal, limit, now]]
         return [first, animal, limit, now]
+
+    def loads(self, runs, changes=()):
+        """The lines that load these runs as they stand, with some words changed."""
+        now = {run: list(getattr(self.there.table, run)) for run in runs}
+        for run, index, word in changes:
+            now[run][index] = word
+        return [[run, *words] for run, words in now.items()]
+
+    def a_run(self):
+        """A run of any length and any words; now and then a word more than the program holds."""
+        r, run = self.r, self.r.choice(list(check.HOLDS))
+        if self.one_in(12):
+            return [run] + [0] * (check.HOLDS[run] + r.randrange(2))
+        good = len(getattr(self.there.table, run))
+        length = r.choice([0, 1, 4, 8, 12, good, good, max(0, good + r.choice([-1, 1, 4])), 2 * good])
+        number = r.choice([lambda: 0, lambda: 0, lambda: r.randrange(3), lambda: r.getrandbits(32), self.number])
+        return [run] + [number() for _ in range(length)]
+
+    def fault(self, t):
+        """Words to change, so that a condition of the judge breaks, 2 to 8, if somebody is there to break it."""
+        r, condition = self.r, self.r.choice([2, 3, 4, 4, 5, 5, 6, 6, 6, 7, 8, 8])
+        live, taken = t.live(), [s for s, word in enumerate(t.slots) if word != 0]
+        vacant = [p for p in range(t.m) if p not in live]
+        slot, place, tag = r.randrange(len(t.slots)), r.randrange(t.m), r.randrange(1, 256)
+        if condition == 2:
+            return [('slots', slot, r.choice([place or 1, tag << 24 | place, tag << 16 | t.m, 2**32 - 1]))]
+        if condition == 3:
+            return [('counters', r.randrange(len(t.counters)), 2 * r.randrange(2**31) + 1)]
+        if condition == 7:
+            return [('items', 4 * place + 1, 2**32 << r.choice([0, r.randrange(32)]))]
+        if condition == 4 and vacant and self.one_in(3):  # a vacant place, as if 0 were an animal
+            return [('slots', r.choice(t.home_slots(0)), check.tag_of(0) << 16 | r.choice(vacant))]
+        if condition == 8 and vacant:
+            return [('items', 4 * r.choice(vacant) + r.randrange(1, 4), r.choice([1, 2**32 - 1, 2**64 - 1]))]
+        if not live or not taken:
+            return []
+        her, old = r.choice(live), r.choice(taken)
+        word = check.tag_of(t.items[4 * her]) << 16
+        free = [s for s in t.home_slots(t.items[4 * her]) if t.slots[s] == 0]
+        if condition == 4:  # another tag, any tag and place, mostly another bucket, another animal or none
+            return r.choice([[('slots', old, t.slots[old] ^ 65536 << r.randrange(8))],
+                             [('slots', slot, tag << 16 | place)],
+                             [('slots', old, 0), ('slots', slot, t.slots[old])],
+                             [('items', 4 * her, r.choice([0, *self.pool]))]])
+        if condition == 5:  # no slot, two of them, a place that nobody was given
+            return r.choice([[('slots', old, 0)], *([('slots', s, word | her)] for s in free),
+                             *([('items', 4 * p, self.lately())] for p in vacant[:2])])
+        if condition == 6 and free and vacant:
+            at = r.choice(vacant)
+            hers = [('items', 4 * at + n, t.items[4 * her + n]) for n in range(4)]
+            return [*hers, ('slots', r.choice(free), word | at)]
+        return []
+
+    def faults(self):
+        """One or two faults, by pokes or by loaded runs, and the verdict; mostly they are mended then."""
+        t = self.there.table
+        if t.judge().startswith('no 1') or t.judge() != 'yes' and self.one_in(2):
+            return [['fresh', 4 * self.n, self.v, 4 * self.m], *(self.set() for _ in range(self.m // 2))]
+        changes = self.fault(t) + (self.fault(t) if self.one_in(3) else [])
+        runs = sorted({run for run, _, _ in changes})
+        back = [(run, index, getattr(t, run)[index]) for run, index, _ in reversed(changes)]
+        made, mended = self.loads(runs, changes), self.loads(check.HOLDS)
+        between = [self.write() for _ in range(self.r.choice([0, 0, 0, 1, 4]))]
+        if self.one_in(2):
+            made = [['poke', *change] for change in changes]
+        if self.one_in(2) and not between:
+            mended = [['poke', *change] for change in back]
+        if between:
+            made += [['judge'], *between]
+        return [*made, ['judge']] if self.one_in(8) else [*made, ['judge'], *mended, ['judge']]
 
     def call(self):
         r, kind = self.r, self.r.randrange(100)
-        if self.again:
-            again, self.again = self.again, None
-            return again
+        if self.coming:
+            return self.coming.pop(0)
+        if self.one_in(14):
+            return ['judge']
+        if self.one_in(70):
+            self.coming = [*self.loads(check.HOLDS), ['judge']]  # nothing has changed: as good as it was
+            return ['dump']
+        if self.pokes and self.one_in(60):
+            self.coming = [['judge']] if self.one_in(2) else [['judge'], ['fresh', 4 * self.n, self.v, 4 * self.m]]
+            return self.a_run()
+        if self.pokes and self.one_in(12):
+            self.coming = self.faults()
+            return self.coming.pop(0)
         if kind < 40:
             return self.write()
         if kind < 72:
@@ -207,9 +297,11 @@ class Day:
             self.shape()
             return ['fresh', self.length(4 * self.n), self.length(self.v), self.length(4 * self.m)]
         if kind < 94:
+            self.coming = [['judge']] * self.one_in(2)
             return ['cut', r.choice([0, 1, 2, 3, 5, 7, 11, 30, self.number()]) if self.cuts else WHOLE, *self.write()]
         if not self.pokes:
             return self.set()
+        self.coming = [['judge']] * self.one_in(2)
         run = r.choice(['slots', 'slots', 'counters', 'items'])
         good = {'slots': 4 * self.n, 'counters': self.v, 'items': 4 * self.m}[run]
         if run == 'items' and self.one_in(2):
@@ -257,6 +349,17 @@ class Day:
         return words
 
     def line(self):
+        """The next line. It is answered here too, so that the table is known."""
+        line = self.bare_line()
+        try:
+            words = check.words_of(line)
+            if words:
+                self.there.answer(check.understood(words))
+        except (check.NotUnderstood, check.Refused):
+            pass
+        return line
+
+    def bare_line(self):
         r = self.r
         if self.one_in(14):
             return r.choice([b'', b' ', b'\t \t', b'#', b'# set 1 2 3 4', b'  # \xff\x00', b'#' * 300])
@@ -276,8 +379,9 @@ class Day:
     def text(self, lines):
         r = self.r
         ends = r.choice([[b'\n'], [b'\r\n'], [b'\n', b'\n', b'\r\n']])
-        first = b'fresh %d %d %d' % (4 * self.n, self.v, 4 * self.m)
-        parts = [r.choice([b'', b'', MARK]), first if not self.one_in(6) else self.line()]
+        if not self.one_in(6):
+            self.coming = [['fresh', 4 * self.n, self.v, 4 * self.m]]
+        parts = [r.choice([b'', b'', MARK]), self.line()]
         for _ in range(lines):
             parts += [r.choice(ends), self.line()]
         return b''.join(parts) + r.choice([b'\n', b'\r\n', b'', b'\r', b'\n\n', b'\n\r', b'#'])
@@ -306,18 +410,32 @@ def every_turn():
     return '\n'.join(lines).encode()
 
 
+def every_length():
+    """Each run at and about the edges of its length and of what the program holds, and the verdict on it."""
+    lines = []
+    for name, most in check.HOLDS.items():
+        for length in 0, 1, 2, 3, 4, 5, 7, 8, 9, 12, 16, 1023, 1024, 1025, most // 2, most - 1, most, most + 1:
+            lines += ['fresh 8 1 4', name + ' 0' * length, 'judge', 'set 1 1 1 1', 'plain 1 1 1', 'judge']
+        lines += [name + ' 0' * (most + 1) + bad for bad in (' x', ' 18446744073709551616', ' 4294967296')]
+    return '\n'.join(lines + ['dump']).encode()
+
+
 def fresh_lines(seed, files, lines):
     edges = [b'', b'\n', b'\r', b'\r\n', b'#', b'd', b'dump', b'dump\r', b'\x00', MARK, MARK + b'\n', MARK + b'dump',
              MARK + MARK + b'dump', MARK[:1], MARK[:2] + b'dump', b'\n' + MARK + b'dump', b' ' + MARK + b'dump\n',
-             b'dump' + MARK, b'plain 0 10081 1\nfresh 8 1 4\nplain 0 10081 1\ncut 1 plain 1 1 1']
+             b'dump' + MARK, b'plain 0 10081 1\nfresh 8 1 4\nplain 0 10081 1\ncut 1 plain 1 1 1', b'judge', b'slots',
+             b'judge\nslots # 1\njudge\nslots' + b' 0' * 8 + b'\njudge\ncounters 0\njudge\nitems 0 0 0 0\njudge\ndump']
     for n, data in enumerate(edges):
         compare('edge %d' % n, data)
     compare('every turn', every_turn())
+    compare('every length', every_length())
+    VERDICTS.update(dict.fromkeys(VERDICTS, 0))
     LEFT.update(dict.fromkeys(LEFT, 0))  # of the random lines alone it is told what they met
     answers = sum(compare('seed %d file %d' % (seed, n), Day('%d %d' % (seed, n)).text(lines)) for n in range(files))
     print('seed %d: %d files of %d lines, %d lines of answers, no difference' % (seed, files, lines, answers))
-    print('plain and read of the same: %d on tables of finished calls, all alike; %d on others, %d of them unlike'
+    print('plain and read of the same: %d on good tables, all alike; %d on others, %d of them unlike'
           % (PAIRS[True][0], *PAIRS[False]))
+    print('judged: ' + ', '.join('%s %d' % told for told in VERDICTS.items()))
     print('left: ' + ', '.join('%s %d' % told for told in LEFT.items()))
     if not PAIRS[True][0]:
         sys.exit('too few lines: plain and read were never compared')
@@ -329,4 +447,4 @@ if __name__ == '__main__':
     if len(sys.argv) < 3 or sys.argv[1] != 'random':
         sys.exit(__doc__)
     numbers = [int(n) for n in sys.argv[2:5]]
-    fresh_lines(*numbers, *(30, 500)[len(numbers) - 1:])
+    fresh_lines(*numbers, *(30, 700)[len(numbers) - 1:])

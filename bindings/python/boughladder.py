@@ -20,7 +20,7 @@ every true list late until the animal is deleted.
 
 One call at a time: no call may run while another one writes (fresh, set, delete, evict, serve and the cut forms) on the
 same table. Each Table has a lock and each of its calls takes it, so threads may share it. Two Tables over the same
-arrays have two locks: make one. The function plain_read, for an auditor, takes no lock.
+arrays have two locks: make one. The functions plain_read and judge, for an auditor, take no lock.
 
 The library is libboughladder.so, which bindings/python/run links: beside this file, in target/python of the repository,
 or where the environment variable BOUGHLADDER_SO says.
@@ -55,6 +55,17 @@ REFUSALS = {
     11: 'late: a permission that was issued later is held',
 }
 
+CONDITIONS = {
+    1: 'a run has a wrong length',
+    2: 'a slot word is damaged',
+    3: 'a counter is odd',
+    4: 'a slot does not point to an animal that belongs there',
+    5: 'not exactly one slot points to a place that is taken',
+    6: 'two places hold the same animal',
+    7: 'a permission does not fit 32 bits',
+    8: 'a vacant place is not all zero',
+}
+
 
 class Refusal(Exception):
     """A call refused; `number` says why."""
@@ -84,6 +95,27 @@ class Evicted(NamedTuple):
     victim: int  # the animal that went
     looked: int  # places looked at
     hand: int    # to pass to the next evict; after a refusal the hand is as it was
+
+
+@dataclass(frozen=True)
+class Judgement:
+    """What judge says. It is true where it is a yes; as text it tells the condition that is broken, and where."""
+    condition: int      # 0: sound, a yes; else the first condition that is broken, 1 to 8, as CONDITIONS has them
+    at: Optional[int]   # the lowest that breaks it: 1 the run (0 slots, 1 counters, 2 items), 2 and 4 the slot,
+                        # 3 the counter, 5 to 8 the place; None where sound
+
+    @property
+    def sound(self):
+        return self.condition == 0
+
+    def __bool__(self):
+        return self.sound
+
+    def __str__(self):
+        if self.sound:
+            return 'sound'
+        return 'condition %d at %s: %s' % (self.condition, self.at,
+                                           CONDITIONS.get(self.condition, 'no condition number'))
 
 
 class Record(NamedTuple):
@@ -132,6 +164,10 @@ class _Listing(ctypes.Structure):
     _fields_ = [('refusal', ctypes.c_uint32), ('count', ctypes.c_size_t)]
 
 
+class _Judgement(ctypes.Structure):
+    _fields_ = [('condition', ctypes.c_uint32), ('at', ctypes.c_size_t)]
+
+
 _u32, _u64, _size = ctypes.c_uint32, ctypes.c_uint64, ctypes.c_size_t
 _ITEMS = [ctypes.POINTER(_u64), _size]
 _LENT = [ctypes.POINTER(_u32), _size, ctypes.POINTER(_u32), _size] + _ITEMS
@@ -150,6 +186,7 @@ _CALLS = {
     'evict_cut': (_Evicting, _LENT + [_size, _u64]),
     'list': (_Listing, _LENT + [ctypes.c_char_p, _size]),
     'plain_read': (_Reading, _ITEMS + [_u64, _u64, _u64]),
+    'judge': (_Judgement, _LENT),
 }
 
 
@@ -224,6 +261,28 @@ def plain_read(items, animal, limit, now):
     return _told(_answered('plain_read', items, len(items), *_asked(animal, limit, now)))
 
 
+def _want_arrays(slots, counters, items):
+    for array, kind in ((slots, _u32), (counters, _u32), (items, _u64)):
+        if not _is_array(array, kind):
+            raise TypeError('a table wants ctypes arrays of c_uint32, c_uint32 and c_uint64')
+
+
+def judge(*, slots, counters, items):
+    """Judges memory that others have built or that a cabinet brings: ctypes arrays of c_uint32, c_uint32 and c_uint64.
+
+    It is a yes where no condition is broken; else it tells the first that is, and the lowest run, slot, counter or
+    place that breaks it. What finished calls leave, from fresh on, gets a yes. After a yes, whoever built the table,
+    it answers from then on as the order demands: Table.over takes it as it stands. It refuses and changes nothing.
+
+    The arguments go by name: slots and counters that are swapped may get a yes. It takes no lock; Table.judge does.
+
+    The bytes of a dump: slots=(ctypes.c_uint32 * (len(dump) // 4)).from_buffer_copy(dump), and so on.
+    """
+    _want_arrays(slots, counters, items)
+    r = _library['judge'](slots, len(slots), counters, len(counters), items, len(items))
+    return Judgement(r.condition, None if r.condition == 0 else r.at)
+
+
 class Table:
     """A table, fresh, of so many buckets (a power of two, 2 to 2048), counters (1 to 1024) and places (1 to 4096)."""
 
@@ -234,9 +293,7 @@ class Table:
     @classmethod
     def over(cls, *, slots, counters, items):
         """A table over ctypes arrays of c_uint32, c_uint32 and c_uint64, as they stand. The arguments go by name."""
-        for array, kind in ((slots, _u32), (counters, _u32), (items, _u64)):
-            if not _is_array(array, kind):
-                raise TypeError('a table wants ctypes arrays of c_uint32, c_uint32 and c_uint64')
+        _want_arrays(slots, counters, items)
         table = cls.__new__(cls)
         table._lend(slots, counters, items)
         return table
@@ -269,6 +326,11 @@ class Table:
         """
         with self._lock:
             return plain_read(self.items, animal, limit, now)
+
+    def judge(self):
+        """judge of the three arrays: a yes, or the first condition that is broken, and where."""
+        with self._lock:
+            return judge(slots=self.slots, counters=self.counters, items=self.items)
 
     def find(self, animal):
         """The place at which the animal is held, whatever its age, or None."""

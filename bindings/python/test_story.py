@@ -3,8 +3,9 @@ import ctypes
 import threading
 import unittest
 
-from boughladder import (ABSENT, AHEAD, FRESH, GRAZING, HOLDING, LARGEST_LIMIT, LEAST_LEFT, MILKING, OLD, REFUSALS,
-                         STANDING, Evicted, Reading, Record, Refusal, Stored, Table, lane, plain_read, records)
+from boughladder import (ABSENT, AHEAD, CONDITIONS, FRESH, GRAZING, HOLDING, LARGEST_LIMIT, LEAST_LEFT, MILKING, OLD,
+                         REFUSALS, STANDING, Evicted, Judgement, Reading, Record, Refusal, Stored, Table, judge, lane,
+                         plain_read, records)
 
 
 def lent(s, c, i):
@@ -18,6 +19,10 @@ def made(s, c, i):
     table = lent(s, c, i)
     table.fresh()
     return table
+
+
+def words(table):
+    return table.slots[:], table.counters[:], table.items[:]
 
 
 def fresh(permission, left):
@@ -158,10 +163,10 @@ class Story(unittest.TestCase):
 
     def unchanged(self, number, table, animal, issued, now, standing=False):
         """A set and its cut form refuse alike, and leave every word as it was."""
-        before = table.slots[:], table.counters[:], table.items[:]
+        before = words(table)
         self.refused(number, table.set_standing if standing else table.set, animal, 9, issued, now)
         self.refused(number, table.set_standing_cut if standing else table.set_cut, animal, 9, issued, now, 5)
-        self.assertEqual((table.slots[:], table.counters[:], table.items[:]), before)
+        self.assertEqual(words(table), before)
 
     def test_a_late_list(self):
         table = self.holding()
@@ -421,6 +426,155 @@ class Story(unittest.TestCase):
             self.assertEqual(self.said(table.read, 1, 720, 110), said)
             self.assertEqual(self.plainly(table, 1, 720, 110), fresh(1, 710))
 
+    def judged(self, table):
+        """Judge over the table and over its arrays, which say the same: None for a yes, or the condition and where."""
+        before = words(table)
+        said = judge(slots=table.slots, counters=table.counters, items=table.items)
+        self.assertEqual(table.judge(), said)
+        self.assertEqual(words(table), before)
+        self.assertEqual((said.sound, bool(said)), (said.condition == 0, said.condition == 0))
+        self.assertEqual(said.at is None, said.sound)
+        return None if said.sound else (said.condition, said.at)
+
+    def herd(self):
+        """Animals 11, 13 and 14 at places 0, 2 and 3; 1 and 4 are vacant. Of two buckets each slot is a home."""
+        table = made(8, 3, 20)
+        for animal in (11, 12, 13, 14):
+            table.set(animal, 1, 100, 100)
+        table.delete(12)
+        self.assertIsNone(self.judged(table))
+        return table
+
+    def test_judge_over_a_day(self):
+        table = made(32, 4, 20)
+        self.assertIsNone(self.judged(table))
+        for call, *numbers in ((table.set, 4711, 1, 100, 100), (table.set, 4712, 0, 100, 100),
+                               (table.set, 4713, 2 ** 32 - 1, 100, 100), (table.serve, 4711, 720, 820),
+                               (table.set_standing, 900, 2, 840, 840), (table.set, 4711, 3, 890, 900),
+                               (table.set, 4711, 1, 100, 902),                                # late
+                               (table.delete, 4711), (table.delete, 4711),                    # place 0 is vacant now
+                               (table.set, 4714, 1, 890, 902), (table.set, 4715, 1, 902, 902),
+                               (table.set, 4716, 1, 902, 902),                                # no place
+                               (table.evict, 1), (table.set, 4716, 1, 902, 902)):
+            self.said(call, *numbers)
+            self.assertIsNone(self.judged(table))
+        table = made(16, 4, 36)
+        for animal in (358, 687, 1012, 1334, 248, 734, 913, 1710, 5):  # the last one has another one moved
+            table.set(animal, 1, 100, 100)
+            self.assertIsNone(self.judged(table))
+
+    def test_judge_lengths(self):
+        for s, c, i, run in ((8, 1, 4, None), (8192, 1024, 16384, None), (4, 1, 4, 0), (12, 1, 4, 0), (16384, 1, 4, 0),
+                             (8, 0, 4, 1), (8, 1025, 4, 1), (8, 1, 0, 2), (8, 1, 6, 2), (8, 1, 16388, 2),
+                             (0, 0, 0, 0), (12, 0, 4, 0), (12, 1, 6, 0), (8, 0, 6, 1)):
+            with self.subTest(lengths=(s, c, i)):
+                table = lent(s, c, i)
+                for array in (table.slots, table.counters, table.items):
+                    ctypes.memset(array, 0, ctypes.sizeof(array))
+                self.assertEqual(self.judged(table), None if run is None else (1, run))
+
+    def test_judge_conditions(self):
+        table = self.herd()
+        good = words(table)
+        slot = {word % 65536: n for n, word in enumerate(table.slots) if word != 0}  # by place
+        word = {place: table.slots[n] for place, n in slot.items()}
+        free = [n for n in range(8) if table.slots[n] == 0]
+
+        def broken(*changes):
+            """What is said of the herd with these words put into runs 0, 1 and 2."""
+            table.slots[:], table.counters[:], table.items[:] = good
+            for run, index, value in changes:
+                (table.slots, table.counters, table.items)[run][index] = value
+            return self.judged(table)
+
+        # Damaged words: no tag, a tag or a place that is too large. The lowest is told.
+        for damage in (4, 256 * 65536, 65536 + 5, 2 ** 32 - 1):
+            for n in range(8):
+                self.assertEqual(broken((0, n, damage)), (2, n))
+                self.assertEqual(broken((0, n, damage), (0, 7, damage)), (2, n))
+        # Odd counters, one of which no call looks at.
+        for n in range(3):
+            self.assertEqual(broken((1, n, 1), (1, 2, 2 ** 32 - 1)), (3, n))
+            self.assertIsNone(broken((1, n, 2 ** 32 - 2)))
+        # A slot that points to a vacant place, or with another tag.
+        self.assertEqual(broken((0, free[1], 65536 + 4), (0, free[2], 65536 + 1)), (4, free[1]))
+        for place in slot:
+            self.assertEqual(broken((0, slot[place], word[place] ^ 65536)), (4, slot[place]))
+            # No slot for her place; two; her word in another slot.
+            self.assertEqual(broken((0, slot[place], 0)), (5, place))
+            self.assertEqual(broken((0, free[0], word[place])), (5, place))
+            self.assertIsNone(broken((0, slot[place], 0), (0, free[0], word[place])))
+            # Twins: the lower place is told. Where the second has no slot, that comes first.
+            for second in (1, 4):
+                twin = (2, 4 * second, table.items[4 * place]), (0, free[0], word[place] - place + second)
+                self.assertEqual(broken(*twin), (6, min(place, second)))
+                self.assertEqual(broken(twin[0]), (5, second))
+        self.assertEqual(broken((0, slot[3], 0), (0, slot[2], 0)), (5, 2))
+        # A wide permission, where taken or vacant: 7 comes before 8.
+        for place in range(5):
+            self.assertEqual(broken((2, 4 * place + 1, 2 ** 32), (2, 4 * 1 + 2, 5)), (7, place))
+            vacant = place in (1, 4)
+            for part, value in ((1, 2 ** 32 - 1), (2, 1), (2, STANDING), (3, 1), (3, 2 ** 64 - 1)):
+                self.assertEqual(broken((2, 4 * place + part, value)), (8, place) if vacant else None)
+        # All at once, and one after the other is put right.
+        every = [(2, 4 * 1 + 2, 1), (2, 4 * 3 + 1, 2 ** 64 - 1), (2, 4 * 4, table.items[4 * 2]),
+                 (0, free[0], word[2] - 2 + 4), (0, slot[3], 0), (0, free[1], 65536 + 1), (1, 2, 7), (0, free[2], 5)]
+        for kept, said in ((8, (2, free[2])), (7, (3, 2)), (6, (4, free[1])), (5, (5, 3)), (4, (6, 2)),
+                           (2, (7, 3)), (1, (8, 1)), (0, None)):
+            self.assertEqual(broken(*every[:kept]), said)
+
+    def test_judge_of_a_cut_call(self):
+        for k in range(9):
+            with self.subTest(k=k):
+                for call, numbers in (('set_cut', (15, 5, 90, 100)), ('set_standing_cut', (15, 5, 90, 100)),
+                                      ('set_cut', (11, 5, 100, 100)), ('delete_cut', (11,))):
+                    table = self.herd()
+                    getattr(table, call)(*numbers, k)
+                    stores = 5 if call == 'set_cut' and numbers[0] == 11 else 7
+                    self.assertEqual(self.judged(table), (3, 0) if 0 < k < stores else None)
+                    table.fresh()
+                    self.assertIsNone(self.judged(table))
+                # Three marks are taken first, and that leaves it sound.
+                table = self.herd()
+                self.assertEqual(table.evict_cut(0, k).victim, 11)
+                self.assertEqual(self.judged(table), None if k <= 3 else (3, 0))
+
+    def test_judge_of_another_workshop(self):
+        # The same herd in other places and slots, with other even counters and recent words.
+        own, word = self.herd(), {}
+        for entry in filter(None, own.slots):
+            word[own.items[4 * (entry % 65536)]] = entry // 65536 * 65536
+        table = lent(8, 3, 20)
+        table.slots[:] = 0, 0, word[14] + 0, 0, 0, word[11] + 4, 0, word[13] + 1
+        table.counters[:] = 40, 2 ** 32 - 2, 6
+        table.items[:] = 14, 1, 100, 7, 13, 1, STANDING, 0, 0, 0, 0, 0, 0, 0, 0, 0, 11, 1, 100, 2 ** 64 - 1
+        self.assertIsNone(self.judged(table))
+        for call, *numbers in ((table.read, 11, 720, 820), (table.serve, 13, 720, 820), (table.delete, 14),
+                               (table.set, 15, 2, 200, 200), (table.set, 11, 3, 200, 200), (table.evict, 0)):
+            call(*numbers)
+            self.assertIsNone(self.judged(table))
+            self.agree(table, (11, 13, 14, 15))
+        # The bytes of a dump.
+        dump = bytes(table.slots), bytes(table.counters), bytes(table.items)
+        runs = [(kind * (len(data) // ctypes.sizeof(kind))).from_buffer_copy(data)
+                for kind, data in zip((ctypes.c_uint32, ctypes.c_uint32, ctypes.c_uint64), dump)]
+        self.assertTrue(judge(slots=runs[0], counters=runs[1], items=runs[2]))
+
+    def test_judgements(self):
+        self.assertEqual(list(CONDITIONS), list(range(1, 9)))
+        self.assertEqual(len(set(CONDITIONS.values())), 8)
+        self.assertEqual(str(Judgement(0, None)), 'sound')
+        self.assertEqual(str(Judgement(6, 2)), 'condition 6 at 2: two places hold the same animal')
+        self.assertEqual(str(Judgement(9, 0)), 'condition 9 at 0: no condition number')
+        self.assertFalse(Judgement(9, 0))
+        table = made(8, 1, 4)
+        # By name only, and of arrays of the right kinds only.
+        self.assertRaises(TypeError, lambda: judge(table.slots, table.counters, table.items))
+        for wrong in (table, table.items, [0] * 8, bytes(32), None):
+            self.assertRaises(TypeError, lambda: judge(slots=wrong, counters=table.counters, items=table.items))
+            self.assertRaises(TypeError, lambda: judge(slots=table.slots, counters=wrong, items=table.items))
+        self.assertRaises(TypeError, lambda: judge(slots=table.slots, counters=table.counters, items=table.slots))
+
     def test_lanes(self):
         self.assertEqual([lane(fresh(permission, 0)) for permission in range(5)],
                          [HOLDING, MILKING, GRAZING, MILKING, HOLDING])
@@ -445,7 +599,7 @@ class Story(unittest.TestCase):
     def test_one_call_at_a_time(self):
         table = made(8, 1, 4)
         for call, numbers in ((table.set, (1, 1, 100, 100)), (table.read, (1, 720, 100)), (table.list, ()),
-                              (table.plain_read, (1, 720, 100))):
+                              (table.plain_read, (1, 720, 100)), (table.judge, ())):
             task = threading.Thread(target=call, args=numbers)
             with table._lock:
                 task.start()

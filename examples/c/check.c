@@ -1,9 +1,9 @@
 /*
  * Checks include/boughladder.h and libboughladder.a against each other: the layout of each struct, where the hash puts
  * an animal, each call with known answers (the order's examples), what is left of the limit, late lists and the order
- * of set's refusals, plain read and where it answers as read, the sizes and limits, the calls over a table beside those
- * over the runs, and garbage memory of any length in blocks of their own, so that valgrind sees a read or a write
- * outside.
+ * of set's refusals, plain read and where it answers as read, judge and each of its conditions, the sizes and limits,
+ * the calls over a table beside those over the runs, and garbage memory of any length in blocks of their own, so that
+ * valgrind sees a read or a write outside.
  * `check ROUNDS` prints one line, `N checks passed`, or the checks that failed.
  */
 #include <stdio.h>
@@ -92,6 +92,25 @@ static int lists(BoughladderListing r, uint32_t refusal, size_t count) {
     return r.refusal == refusal && r.count == count;
 }
 
+static int judges(BoughladderJudgement r, uint32_t condition, size_t at) {
+    return r.condition == condition && r.at == at;
+}
+
+/* Judge in both its forms, over the runs and over a table that is const: they say the same, and no word is changed. */
+static BoughladderJudgement judged(const Table *t) {
+    const BoughladderTable table = {t->slots, t->s, t->counters, t->c, t->items, t->i};
+    Table before = lend(t->s, t->c, t->i);
+    BoughladderJudgement r;
+    copy(&before, t);
+    r = boughladder_judge(LENT(*t));
+    CHECK(judges(boughladder_table_judge(&table), r.condition, r.at));
+    CHECK(same(t, &before) && r.condition <= 8 && (r.condition != 0 || r.at == 0));
+    give_back(&before);
+    return r;
+}
+
+static int is_sound(const Table *t) { return judges(judged(t), BOUGHLADDER_SOUND, 0); }
+
 /* Plain read in all its forms, which say the same: over the items, over the table, and over the items without slots and
    counters. */
 static BoughladderReading plainly(const Table *t, uint64_t animal, uint64_t limit, uint64_t now) {
@@ -126,9 +145,10 @@ static BoughladderReading walked(const Table *t, uint64_t animal, uint64_t limit
 }
 
 /* On a table that finished calls have made, plain read answers as read: for every place's number, which is 0 where the
-   place is vacant, and for the next number; at the edges of the limit and of the minutes. */
+   place is vacant, and for the next number; at the edges of the limit and of the minutes. And judge says yes. */
 static void agree(const Table *t) {
     static const uint64_t limits[6] = {0, 1, 720, 10080, 10081, UINT64_MAX};
+    CHECK(is_sound(t));
     for (size_t place = 0; place < t->i / 4; place++)
         for (int l = 0; l < 6; l++) {
             uint64_t animal = t->items[4 * place], limit = limits[l], stamp = t->items[4 * place + 2];
@@ -154,6 +174,8 @@ static void layout(void) {
     CHECK(offsetof(BoughladderEvicting, hand) == 24);
     CHECK(sizeof(BoughladderListing) == 16);
     CHECK(offsetof(BoughladderListing, count) == 8);
+    CHECK(sizeof(BoughladderJudgement) == 16);
+    CHECK(offsetof(BoughladderJudgement, at) == 8);
 }
 
 static uint32_t fnv(const void *bytes, size_t n) {
@@ -173,12 +195,14 @@ static int stands(uint64_t animal, uint32_t hash) {
     return holds;
 }
 
-/* The same by the hash of its bytes, lowest first. */
-static int stands_by_bytes(uint64_t animal) {
+/* The hash of an animal: of its bytes, lowest first. */
+static uint32_t hash_of(uint64_t animal) {
     uint8_t bytes[8];
     for (int i = 0; i < 8; i++) bytes[i] = (uint8_t)(animal >> 8 * i);
-    return stands(animal, fnv(bytes, 8));
+    return fnv(bytes, 8);
 }
+
+static int stands_by_bytes(uint64_t animal) { return stands(animal, hash_of(animal)); }
 
 static void hashes(void) {
     const uint8_t one[8] = {1, 0, 0, 0, 0, 0, 0, 0};
@@ -196,9 +220,63 @@ static void hashes(void) {
     for (int i = 8; i < 64; i += 8) CHECK(stands_by_bytes(((uint64_t)1 << i) - 1) && stands_by_bytes((uint64_t)1 << i));
 }
 
+static uint32_t tag_of(uint64_t animal) { return hash_of(animal) >> 24 == 0 ? 1 : hash_of(animal) >> 24; }
+
+/* Whether that word in that slot points to an animal that has this tag, and this bucket as one of its two. */
+static int belongs(const Table *t, size_t slot, uint32_t word) {
+    uint64_t animal = t->items[4 * (word % 65536)], tag = tag_of(animal);
+    uint64_t first = hash_of(animal) % (t->s / 4), spread = tag * 1540483477u % (t->s / 4);
+    spread += spread % 2 == 0;
+    return animal != 0 && word / 65536 == tag && (slot / 4 == first || slot / 4 == (first ^ spread));
+}
+
+static BoughladderJudgement broken(uint32_t condition, size_t at) {
+    BoughladderJudgement r = {condition, at};
+    return r;
+}
+
+/* What judge must say by the order's words, on any memory. */
+static BoughladderJudgement verdict(const Table *t) {
+    static unsigned pointing[4096];
+    size_t places = t->i / 4, k, other;
+    if (t->s < 8 || t->s > 8192 || (t->s & (t->s - 1)) != 0) return broken(1, 0);
+    if (t->c < 1 || t->c > 1024) return broken(1, 1);
+    if (t->i % 4 != 0 || places < 1 || places > 4096) return broken(1, 2);
+    for (k = 0; k < t->s; k++) {
+        uint32_t tag = t->slots[k] / 65536;
+        if (t->slots[k] != 0 && (tag == 0 || tag > 255 || t->slots[k] % 65536 >= places)) return broken(2, k);
+    }
+    for (k = 0; k < t->c; k++)
+        if (t->counters[k] % 2 != 0) return broken(3, k);
+    memset(pointing, 0, sizeof pointing);
+    for (k = 0; k < t->s; k++) {
+        if (t->slots[k] == 0) continue;
+        if (!belongs(t, k, t->slots[k])) return broken(4, k);
+        pointing[t->slots[k] % 65536]++;
+    }
+    for (k = 0; k < places; k++)
+        if (t->items[4 * k] != 0 && pointing[k] != 1) return broken(5, k);
+    for (k = 0; k < places; k++)
+        for (other = k + 1; other < places && t->items[4 * k] != 0; other++)
+            if (t->items[4 * k] == t->items[4 * other]) return broken(6, k);
+    for (k = 0; k < places; k++)
+        if (t->items[4 * k + 1] > UINT32_MAX) return broken(7, k);
+    for (k = 0; k < places; k++)
+        if (t->items[4 * k] == 0 && (t->items[4 * k + 1] | t->items[4 * k + 2] | t->items[4 * k + 3]) != 0)
+            return broken(8, k);
+    return broken(0, 0);
+}
+
+/* Judge says so, and by the order it must. */
+static int told(const Table *t, uint32_t condition, size_t at) {
+    return judges(judged(t), condition, at) && judges(verdict(t), condition, at);
+}
+
+/* What fresh says; judge then says yes, or which length is wrong. */
 static uint32_t shape(size_t s, size_t c, size_t i) {
     Table t = lend(s, c, i);
     uint32_t r = boughladder_fresh(LENT(t));
+    CHECK(told(&t, r == 0 ? BOUGHLADDER_SOUND : BOUGHLADDER_WRONG_LENGTH, verdict(&t).at));
     give_back(&t);
     return r;
 }
@@ -249,6 +327,8 @@ static void sizes(void) {
 static void nothing_lent(void) {
     Table t = lend(8, 1, 4);
     BoughladderTable none = {NULL, 0, NULL, 0, NULL, 0}, two = {t.slots, t.s, t.counters, t.c, NULL, 0};
+    BoughladderTable no_slots = {NULL, 0, t.counters, t.c, t.items, t.i};
+    BoughladderTable no_counters = {t.slots, t.s, NULL, 0, t.items, t.i};
     BoughladderTable *lent[2] = {&none, &two};
     uint8_t record[BOUGHLADDER_RECORD_BYTES];
     for (int k = 0; k < 2; k++) {
@@ -265,6 +345,12 @@ static void nothing_lent(void) {
         CHECK(evicts(boughladder_table_evict_cut(lent[k], 0, 1), BOUGHLADDER_BAD_SHAPE, 0, 0, 0));
         CHECK(lists(boughladder_table_list(lent[k], NULL, 0), BOUGHLADDER_BAD_SHAPE, 0));
     }
+    /* Judge names the run; of several the first. */
+    CHECK(judges(boughladder_table_judge(&none), BOUGHLADDER_WRONG_LENGTH, 0));
+    CHECK(judges(boughladder_table_judge(&no_slots), BOUGHLADDER_WRONG_LENGTH, 0));
+    CHECK(judges(boughladder_table_judge(&no_counters), BOUGHLADDER_WRONG_LENGTH, 1));
+    CHECK(judges(boughladder_table_judge(&two), BOUGHLADDER_WRONG_LENGTH, 2));
+    CHECK(judges(boughladder_judge(t.slots, t.s, NULL, 0, NULL, 0), BOUGHLADDER_WRONG_LENGTH, 1));
     CHECK(boughladder_fresh(LENT(t)) == 0);
     CHECK(lists(boughladder_list(LENT(t), NULL, 0), 0, 0));
     CHECK(boughladder_set(LENT(t), 1, 1, 1, 1, 0).refusal == 0);
@@ -297,6 +383,22 @@ static void texts(void) {
     CHECK(strstr(boughladder_refusal_text(BOUGHLADDER_LATE), "issued later") != NULL);
     CHECK(strcmp(boughladder_refusal_text(12), "no refusal number") == 0);
     CHECK(strcmp(boughladder_refusal_text(UINT32_MAX), "no refusal number") == 0);
+    for (uint32_t a = 0; a <= 8; a++) {
+        CHECK(strcmp(boughladder_condition_text(a), boughladder_condition_text(9)) != 0);
+        for (uint32_t b = 0; b < a; b++)
+            CHECK(strcmp(boughladder_condition_text(a), boughladder_condition_text(b)) != 0);
+    }
+    CHECK(strcmp(boughladder_condition_text(BOUGHLADDER_SOUND), "sound") == 0);
+    CHECK(strstr(boughladder_condition_text(BOUGHLADDER_WRONG_LENGTH), "length") != NULL);
+    CHECK(strstr(boughladder_condition_text(BOUGHLADDER_DAMAGED_WORD), "damaged") != NULL);
+    CHECK(strstr(boughladder_condition_text(BOUGHLADDER_ODD_COUNTER), "odd") != NULL);
+    CHECK(strstr(boughladder_condition_text(BOUGHLADDER_STRAY_SLOT), "belongs") != NULL);
+    CHECK(strstr(boughladder_condition_text(BOUGHLADDER_NOT_ONE_SLOT), "exactly one slot") != NULL);
+    CHECK(strstr(boughladder_condition_text(BOUGHLADDER_TWIN), "same animal") != NULL);
+    CHECK(strstr(boughladder_condition_text(BOUGHLADDER_WIDE_PERMISSION), "32 bits") != NULL);
+    CHECK(strstr(boughladder_condition_text(BOUGHLADDER_VACANT_NOT_ZERO), "vacant") != NULL);
+    CHECK(strcmp(boughladder_condition_text(9), "no condition number") == 0);
+    CHECK(strcmp(boughladder_condition_text(UINT32_MAX), "no condition number") == 0);
 }
 
 /* The decoder, at every alignment: the order's bytes, and each record against its item words. */
@@ -369,6 +471,7 @@ static void ages(void) {
     CHECK(boughladder_delete(LENT(t), 7) == BOUGHLADDER_NOBODY);
     CHECK(t.items[0] == 0 && t.items[1] == 0 && t.items[2] == 0 && t.items[3] == 0);
     CHECK(reads(boughladder_read(LENT(t), 7, 720, 820), 0, BOUGHLADDER_ABSENT, 0, 0));
+    CHECK(is_sound(&t));
     give_back(&t);
 }
 
@@ -549,6 +652,7 @@ static void moves(void) {
     CHECK(boughladder_fresh(LENT(u)) == 0);
     for (uint64_t a = 1; a <= 8; a++) CHECK(sets(boughladder_set(LENT(u), a, 1, 100, 100, 0), 0, 1, 0));
     CHECK(sets(boughladder_set(LENT(u), 9, 1, 100, 100, 0), BOUGHLADDER_NO_ROOM, 0, 0));
+    CHECK(is_sound(&u));
     give_back(&u);
 
     /* N = 4, one counter: two moves after twelve visits. */
@@ -583,6 +687,7 @@ static void clocks(void) {
     CHECK(evicts(boughladder_evict(LENT(t), 1), 0, 1, 6, 1));
     for (size_t k = 0; k < 12; k++) CHECK(t.items[k] == 0);
     for (size_t k = 0; k < 16; k++) CHECK(t.slots[k] == 0);
+    CHECK(is_sound(&t) && is_sound(&u));
     give_back(&t), give_back(&u);
 }
 
@@ -768,6 +873,382 @@ static void plain_walks(void) {
     give_back(&t), give_back(&before);
 }
 
+/* Lengths: each wrong one, beside good and wrong ones, and the first run is told. Some are too large for the memory, so
+   no word may be read. */
+static void wrong_lengths(void) {
+    static const size_t s[14] = {64, 0,    1,     4,     12,       63,           65,
+                                 96, 8191, 12288, 16384, SIZE_MAX, SIZE_MAX - 3, (size_t)UINT32_MAX + 65};
+    static const size_t c[6] = {5, 0, 1025, 2048, SIZE_MAX, (size_t)UINT32_MAX + 6};
+    static const size_t i[9] = {48, 0, 3, 46, 47, 16388, SIZE_MAX, SIZE_MAX - 3, (size_t)UINT32_MAX + 49};
+    Table t = lend(64, 5, 48);
+    for (int a = 0; a < 14; a++)
+        for (int b = 0; b < 6; b++)
+            for (int d = 0; d < 9; d++) {
+                size_t at = a > 0 ? 0 : b > 0 ? 1 : d > 0 ? 2 : 0;
+                BoughladderJudgement r =
+                    boughladder_judge(s[a] == 0 ? NULL : t.slots, s[a], c[b] == 0 ? NULL : t.counters, c[b],
+                                      i[d] == 0 ? NULL : t.items, i[d]);
+                CHECK(judges(r, a + b + d == 0 ? BOUGHLADDER_SOUND : BOUGHLADDER_WRONG_LENGTH, at));
+            }
+    give_back(&t);
+}
+
+/* A table of 16 buckets, 5 counters and 12 places, of which 2, 6, 10 and 11 are vacant. */
+static Table herd_of_8(void) {
+    Table t = lend(64, 5, 48);
+    CHECK(boughladder_fresh(LENT(t)) == 0);
+    for (uint32_t a = 1; a <= 10; a++) CHECK(boughladder_set(LENT(t), a, a, 100, 100, a == 4).refusal == 0);
+    CHECK(boughladder_delete(LENT(t), 3) == 0 && boughladder_delete(LENT(t), 7) == 0);
+    return t;
+}
+
+/* The first slot that points to a place, or as many slots as there are. */
+static size_t slot_of(const Table *t, size_t place) {
+    size_t slot = 0;
+    while (slot < t->s && (t->slots[slot] == 0 || t->slots[slot] % 65536 != place)) slot++;
+    return slot;
+}
+
+/* From that slot on the first free one where that word belongs, or as many slots as there are. */
+static size_t room_for(const Table *t, uint32_t word, size_t slot) {
+    while (slot < t->s && (t->slots[slot] != 0 || !belongs(t, slot, word))) slot++;
+    return slot;
+}
+
+/* The same animal at a second place, which was vacant, with a slot of its own: the first free one from that slot on.
+   Says which, or as many slots as there are if there is none. */
+static size_t double_up(Table *t, size_t place, size_t second, size_t slot) {
+    uint32_t word = tag_of(t->items[4 * place]) * 65536 + (uint32_t)second;
+    for (size_t k = 0; k < 4; k++) t->items[4 * second + k] = t->items[4 * place + k];
+    slot = room_for(t, word, slot);
+    if (slot < t->s) t->slots[slot] = word;
+    return slot;
+}
+
+/* Conditions 2 and 3 in each slot and each counter, a second one behind it or not. */
+static void words_judged(void) {
+    static const uint32_t damaged[6] = {1, 65535, 65536 + 12, 65536 * 256, 0xdeadbeefu, UINT32_MAX};
+    Table t = herd_of_8(), before = herd_of_8(), few;
+    CHECK(told(&t, BOUGHLADDER_SOUND, 0));
+    for (size_t slot = 0; slot < t.s; slot++) {
+        for (int d = 0; d < 6; d++) {
+            t.slots[slot] = damaged[d];
+            CHECK(told(&t, BOUGHLADDER_DAMAGED_WORD, slot));
+            t.slots[t.s - 1] = damaged[d];
+            CHECK(told(&t, BOUGHLADDER_DAMAGED_WORD, slot));
+            copy(&t, &before);
+        }
+        /* The smallest tag, the largest tag and the last place are no damage: these only point to nobody. */
+        t.slots[slot] = 65536 + 2;
+        CHECK(told(&t, BOUGHLADDER_STRAY_SLOT, slot));
+        t.slots[slot] = 255 * 65536 + 11;
+        CHECK(told(&t, BOUGHLADDER_STRAY_SLOT, slot));
+        copy(&t, &before);
+    }
+    for (size_t k = 0; k < t.c; k++) {
+        t.counters[k]++;
+        CHECK(told(&t, BOUGHLADDER_ODD_COUNTER, k));
+        t.counters[t.c - 1] = UINT32_MAX;
+        CHECK(told(&t, BOUGHLADDER_ODD_COUNTER, k));
+        copy(&t, &before);
+    }
+    /* Any even number will do, and the largest is followed by 0. */
+    for (size_t k = 0; k < t.c; k++) t.counters[k] = UINT32_MAX - 1;
+    CHECK(told(&t, BOUGHLADDER_SOUND, 0));
+    CHECK(sets(boughladder_set(LENT(t), 1, 9, 200, 200, 0), 0, 0, 0));
+    CHECK(told(&t, BOUGHLADDER_SOUND, 0));
+    give_back(&t), give_back(&before);
+
+    /* A counter that no call looks at: two buckets, and it is not one of the first two. */
+    few = lend(8, 4, 4);
+    CHECK(boughladder_fresh(LENT(few)) == 0);
+    few.counters[3] = 7;
+    CHECK(boughladder_set(LENT(few), 7, 5, 100, 100, 0).refusal == 0);
+    CHECK(told(&few, BOUGHLADDER_ODD_COUNTER, 3));
+    few.counters[3] = 8;
+    CHECK(told(&few, BOUGHLADDER_SOUND, 0));
+    give_back(&few);
+}
+
+/* Conditions 4 and 5: each entry in each free slot, moved there or copied; for a vacant place the entry that number 0
+   would have, also in the buckets that it would have. */
+static void slots_judged(void) {
+    Table t = herd_of_8(), before = herd_of_8();
+    for (size_t place = 0; place < 12; place++) {
+        size_t old = slot_of(&t, place);
+        uint64_t animal = t.items[4 * place];
+        uint32_t word = animal != 0 ? t.slots[old] : tag_of(0) * 65536 + (uint32_t)place;
+        for (size_t slot = 0; slot < t.s; slot++) {
+            int home = belongs(&t, slot, word);
+            if (t.slots[slot] != 0) continue;
+            t.slots[slot] = word;
+            if (animal == 0) {
+                CHECK(told(&t, BOUGHLADDER_STRAY_SLOT, slot));
+            } else {
+                CHECK(told(&t, home ? BOUGHLADDER_NOT_ONE_SLOT : BOUGHLADDER_STRAY_SLOT, home ? place : slot));
+                t.slots[old] = 0;
+                CHECK(told(&t, home ? BOUGHLADDER_SOUND : BOUGHLADDER_STRAY_SLOT, home ? 0 : slot));
+                if (home)
+                    CHECK(alike(boughladder_read(LENT(t), animal, 720, 100),
+                                boughladder_read(LENT(before), animal, 720, 100)));
+                /* The next tag, which is not hers. */
+                t.slots[slot] = word / 65536 == 255 ? word - 65536 : word + 65536;
+                CHECK(told(&t, BOUGHLADDER_STRAY_SLOT, slot));
+            }
+            copy(&t, &before);
+        }
+    }
+    /* A stray in another's slot, so that her place has none; and a second stray. */
+    for (size_t place = 0; place < 10; place++) {
+        size_t slot = slot_of(&t, place), last = t.s - 1;
+        if (slot == t.s) continue;
+        t.slots[slot] = 65536 * 9 + 2;
+        CHECK(told(&t, BOUGHLADDER_STRAY_SLOT, slot));
+        t.slots[last] = 65536 * 9 + 2;
+        CHECK(told(&t, BOUGHLADDER_STRAY_SLOT, slot));
+        copy(&t, &before);
+    }
+    /* No slot for one place, for two, and two slots for the other. */
+    for (size_t place = 0; place < 10; place++)
+        for (size_t other = 0; other < 10; other++) {
+            size_t lower = place < other ? place : other;
+            if (before.items[4 * place] == 0 || before.items[4 * other] == 0) continue;
+            t.slots[slot_of(&t, place)] = 0;
+            CHECK(told(&t, BOUGHLADDER_NOT_ONE_SLOT, place));
+            if (place != other) {
+                uint32_t word = t.slots[slot_of(&t, other)];
+                t.slots[room_for(&t, word, 0)] = word;
+                CHECK(told(&t, BOUGHLADDER_NOT_ONE_SLOT, lower));
+                while (slot_of(&t, other) < t.s) t.slots[slot_of(&t, other)] = 0;
+                CHECK(told(&t, BOUGHLADDER_NOT_ONE_SLOT, lower));
+            }
+            copy(&t, &before);
+        }
+    give_back(&t), give_back(&before);
+}
+
+/* Conditions 6, 7 and 8: each place. */
+static void places_judged(void) {
+    static const uint64_t values[5] = {1, UINT32_MAX, (uint64_t)UINT32_MAX + 1, UINT64_MAX - 1, UINT64_MAX};
+    static const size_t vacant[4] = {2, 6, 10, 11};
+    Table t = herd_of_8(), before = herd_of_8();
+    for (size_t place = 0; place < 10; place++)
+        for (int v = 0; v < 4 && before.items[4 * place] != 0; v++) {
+            size_t second = vacant[v], lower = place < second ? place : second, slot = 0;
+            /* In each free slot of both buckets. */
+            for (; (slot = double_up(&t, place, second, slot)) < t.s; slot++) {
+                CHECK(told(&t, BOUGHLADDER_TWIN, lower));
+                /* Other words make no other animal. */
+                t.items[4 * second + 1] = 99, t.items[4 * second + 2] = UINT64_MAX, t.items[4 * second + 3] = 0;
+                CHECK(told(&t, BOUGHLADDER_TWIN, lower));
+                /* A third one, or another pair. */
+                if (v > 0) {
+                    CHECK(double_up(&t, place == 9 ? 9 : 8, 2, 0) < t.s);
+                    CHECK(told(&t, BOUGHLADDER_TWIN, lower < 2 ? lower : 2));
+                }
+                copy(&t, &before);
+            }
+            /* It has found no free slot any more: that she has none is told first. */
+            CHECK(told(&t, BOUGHLADDER_NOT_ONE_SLOT, second));
+            copy(&t, &before);
+        }
+    /* Numbers that differ only in their high half are others, and one whose low half is 0 is a number. */
+    for (uint64_t high = 1; high <= 2; high++)
+        CHECK(boughladder_set(LENT(t), 7 + (high << 32), 1, 100, 100, 0).refusal == 0);
+    CHECK(boughladder_set(LENT(t), (uint64_t)1 << 32, 1, 100, 100, 0).refusal == 0 && t.items[4 * 10] >> 32 == 1);
+    CHECK(told(&t, BOUGHLADDER_SOUND, 0));
+    t.slots[slot_of(&t, 10)] = 0;
+    CHECK(told(&t, BOUGHLADDER_NOT_ONE_SLOT, 10));
+    copy(&t, &before);
+
+    for (size_t place = 0; place < 12; place++) {
+        int is_vacant = before.items[4 * place] == 0;
+        for (int v = 0; v < 5; v++)
+            for (size_t part = 1; part < 4; part++) {
+                int wide = part == 1 && v > 1;
+                t.items[4 * place + part] = values[v];
+                CHECK(told(&t, wide ? 7 : is_vacant ? 8 : 0, wide || is_vacant ? place : 0));
+                /* Beside a lower vacant place that is not all 0, 7 is told, and of 8 the lower. */
+                if (place > 2) {
+                    t.items[4 * 2 + 3] = 1;
+                    CHECK(told(&t, wide ? 7 : 8, wide ? place : 2));
+                }
+                /* The last place as well. */
+                t.items[4 * 11 + 1] = UINT64_MAX;
+                CHECK(told(&t, 7, wide ? place : 11));
+                copy(&t, &before);
+            }
+        /* All three words of a vacant place, its permission wide. */
+        if (is_vacant) {
+            for (size_t part = 1; part < 4; part++) t.items[4 * place + part] = UINT64_MAX;
+            CHECK(told(&t, BOUGHLADDER_WIDE_PERMISSION, place));
+            t.items[4 * place + 1] = UINT32_MAX;
+            CHECK(told(&t, BOUGHLADDER_VACANT_NOT_ZERO, place));
+            copy(&t, &before);
+        }
+    }
+    /* Standing, old or ahead of all minutes, with any recent word: sound, and read takes her as plain read does. */
+    for (int v = 0; v < 5; v++) {
+        t.items[2] = values[v], t.items[3] = values[4 - v];
+        CHECK(told(&t, BOUGHLADDER_SOUND, 0));
+        agree(&t);
+    }
+    give_back(&t), give_back(&before);
+}
+
+/* All conditions at once, each later one at a lower number or as low; and one after the other is put right. */
+static void conditions_in_turn(void) {
+    Table t = herd_of_8();
+    uint32_t word_of_9 = t.slots[slot_of(&t, 8)], word_of_6 = t.slots[slot_of(&t, 5)];
+    size_t slot_of_9 = slot_of(&t, 8), stray = 0, twin;
+    while (t.slots[stray] != 0 || belongs(&t, stray, word_of_6)) stray++;
+    t.items[4 * 2 + 2] = 1;
+    t.items[4 * 4 + 1] = (uint64_t)UINT32_MAX + 1;
+    twin = double_up(&t, 5, 10, 0);
+    t.slots[slot_of_9] = 0;
+    t.slots[stray] = word_of_6;
+    t.counters[4]++;
+    CHECK(t.slots[63] == 0);
+    t.slots[63] = 65535;
+    for (size_t s = 63; s <= 64; s++)
+        for (size_t c = 0; c <= 5; c += 5)
+            for (size_t i = 47; i <= 48; i++) {
+                t.s = s, t.c = c, t.i = i;
+                CHECK(s == 64 && c == 5 && i == 48 ? told(&t, BOUGHLADDER_DAMAGED_WORD, 63)
+                                                   : told(&t, BOUGHLADDER_WRONG_LENGTH, s == 63 ? 0 : c == 0 ? 1 : 2));
+            }
+    t.slots[63] = 0;
+    CHECK(told(&t, BOUGHLADDER_ODD_COUNTER, 4));
+    t.counters[4]++;
+    CHECK(told(&t, BOUGHLADDER_STRAY_SLOT, stray));
+    t.slots[stray] = 0;
+    CHECK(told(&t, BOUGHLADDER_NOT_ONE_SLOT, 8));
+    t.slots[slot_of_9] = word_of_9;
+    CHECK(told(&t, BOUGHLADDER_TWIN, 5));
+    t.slots[twin] = 0, memset(t.items + 4 * 10, 0, 32);
+    CHECK(told(&t, BOUGHLADDER_WIDE_PERMISSION, 4));
+    t.items[4 * 4 + 1] = UINT32_MAX;
+    CHECK(told(&t, BOUGHLADDER_VACANT_NOT_ZERO, 2));
+    t.items[4 * 2 + 2] = 0;
+    CHECK(told(&t, BOUGHLADDER_SOUND, 0));
+    agree(&t);
+    give_back(&t);
+}
+
+/* The largest table and the smallest, all places taken; and the last slot, counter and place. */
+static void ends_judged(void) {
+    Table t = lend(8192, 1024, 16384), before = lend(8192, 1024, 16384), u = lend(8, 1, 4);
+    uint32_t word;
+    CHECK(boughladder_fresh(LENT(t)) == 0);
+    for (uint64_t a = 1; a <= 4096; a++) CHECK(boughladder_set(LENT(t), a * a, 1, 100, 100, 0).refusal == 0);
+    CHECK(sets(boughladder_set(LENT(t), 2, 1, 100, 100, 0), BOUGHLADDER_NO_PLACE, 0, 0));
+    CHECK(told(&t, BOUGHLADDER_SOUND, 0));
+    copy(&before, &t);
+    t.slots[8191] = 65536 + 4096;
+    CHECK(told(&t, BOUGHLADDER_DAMAGED_WORD, 8191));
+    t.slots[8191] = 65536 * 256;
+    CHECK(told(&t, BOUGHLADDER_DAMAGED_WORD, 8191));
+    copy(&t, &before), t.counters[1023] = 1;
+    CHECK(told(&t, BOUGHLADDER_ODD_COUNTER, 1023));
+    copy(&t, &before), t.slots[8191] = t.slots[slot_of(&t, 4095)] ^ 65536 * 128;
+    CHECK(told(&t, BOUGHLADDER_STRAY_SLOT, 8191));
+    copy(&t, &before), t.slots[slot_of(&t, 4095)] = 0;
+    CHECK(told(&t, BOUGHLADDER_NOT_ONE_SLOT, 4095));
+    copy(&t, &before), t.items[16381] = UINT64_MAX;
+    CHECK(told(&t, BOUGHLADDER_WIDE_PERMISSION, 4095));
+    copy(&t, &before);
+    CHECK(boughladder_delete(LENT(t), 4096 * 4096) == 0);
+    CHECK(told(&t, BOUGHLADDER_SOUND, 0));
+    t.items[16383] = 1;
+    CHECK(told(&t, BOUGHLADDER_VACANT_NOT_ZERO, 4095));
+    CHECK(double_up(&t, 4094, 4095, 0) < t.s && told(&t, BOUGHLADDER_TWIN, 4094));
+    give_back(&t), give_back(&before);
+
+    CHECK(boughladder_fresh(LENT(u)) == 0);
+    CHECK(told(&u, BOUGHLADDER_SOUND, 0));
+    CHECK(boughladder_set(LENT(u), 7, 5, 100, 100, 0).refusal == 0);
+    CHECK(told(&u, BOUGHLADDER_SOUND, 0));
+    /* With two buckets every slot is a home. */
+    word = u.slots[slot_of(&u, 0)];
+    for (size_t slot = 0; slot < 8; slot++) {
+        memset(u.slots, 0, 32);
+        u.slots[slot] = word;
+        CHECK(told(&u, BOUGHLADDER_SOUND, 0));
+        CHECK(reads(boughladder_read(LENT(u), 7, 720, 820), 0, BOUGHLADDER_FRESH, 5, 0));
+    }
+    give_back(&u);
+}
+
+/* The counter that a cut has left odd, or as many as there are. */
+static size_t odd_counter(const Table *t) {
+    size_t k = 0;
+    while (k < t->c && t->counters[k] % 2 == 0) k++;
+    return k;
+}
+
+enum { SETTING, STANDING, DELETING, EVICTING };
+
+/* A call cut at every k. It makes `before` stores in whole steps, moves of four stores or clears of one, and between
+   them no counter is odd. Then come the stores of one entry, the first and the last of them to its counter. Judge says
+   yes where no counter is odd, and else 3 and that counter; fresh makes it sound again. What it says of half an entry
+   whose counter is made even by hand stands in `half`, a digit for each of its stores: the condition, of that place. */
+static void cut_judged(const Table *whole, int call, uint64_t animal, uint64_t before, uint64_t step, const char *half,
+                       size_t place) {
+    uint64_t stores = before + strlen(half);
+    for (uint64_t k = 0; k <= stores + 1; k++) {
+        Table t = lend(whole->s, whole->c, whole->i);
+        int even = k >= stores || (k <= before && k % step == 0);
+        copy(&t, whole);
+        if (call == DELETING) CHECK(boughladder_delete_cut(LENT(t), animal, k) == 0);
+        else if (call == EVICTING) CHECK(boughladder_evict_cut(LENT(t), 0, k).victim == animal);
+        else CHECK(boughladder_set_cut(LENT(t), animal, 9, 200, 200, call == STANDING, k).refusal == 0);
+        CHECK((odd_counter(&t) == t.c) == even);
+        CHECK(even ? told(&t, BOUGHLADDER_SOUND, 0) : told(&t, BOUGHLADDER_ODD_COUNTER, odd_counter(&t)));
+        if (!even && k > before) {
+            uint32_t condition = (uint32_t)(half[k - before - 1] - '0');
+            t.counters[odd_counter(&t)]++;
+            CHECK(told(&t, condition, condition == 0 ? 0 : place));
+        } else if (!even) {
+            /* In a move: nothing yet, two slots for one place, or only the last store is wanted. */
+            t.counters[odd_counter(&t)]++;
+            CHECK(k % 4 == 2 ? judged(&t).condition == BOUGHLADDER_NOT_ONE_SLOT : is_sound(&t));
+            CHECK(judges(verdict(&t), judged(&t).condition, judged(&t).at));
+        }
+        CHECK(boughladder_fresh(LENT(t)) == 0 && told(&t, BOUGHLADDER_SOUND, 0));
+        give_back(&t);
+    }
+}
+
+static void cuts_judged(void) {
+    static const uint64_t herd[8] = {358, 687, 1012, 1334, 248, 734, 913, 1710};
+    static const uint64_t small[12] = {1, 5, 9, 13, 12, 16, 20, 24, 2, 6, 10, 14};
+    Table t = herd_of_8();
+    for (int standing = SETTING; standing <= STANDING; standing++) {
+        cut_judged(&t, standing, 11, 0, 1, "0555500", 2);
+        cut_judged(&t, standing, 5, 0, 1, "00000", 4); /* an update: half an entry looks whole */
+    }
+    cut_judged(&t, DELETING, 5, 0, 1, "0588800", 4);
+    cut_judged(&t, EVICTING, 1, 8, 1, "0588000", 0); /* eight clears; so her recent word is 0 already */
+    t.items[4 * 3 + 3] = 0;
+    cut_judged(&t, EVICTING, 4, 2, 1, "0588000", 3); /* two are passed, and 4 was not here lately */
+    give_back(&t);
+
+    t = lend(16, 4, 36);
+    CHECK(boughladder_fresh(LENT(t)) == 0);
+    for (uint32_t k = 0; k < 8; k++) CHECK(boughladder_set(LENT(t), herd[k], k, 100, 100, 0).refusal == 0);
+    CHECK(told(&t, BOUGHLADDER_SOUND, 0));
+    cut_judged(&t, SETTING, 5, 4, 4, "0555500", 8);
+    CHECK(sets(boughladder_set(LENT(t), 5, 9, 100, 100, 0), 0, 5, 1) && told(&t, BOUGHLADDER_SOUND, 0));
+    give_back(&t);
+
+    t = lend(16, 1, 52);
+    CHECK(boughladder_fresh(LENT(t)) == 0);
+    for (uint32_t k = 0; k < 12; k++) CHECK(boughladder_set(LENT(t), small[k], k, 100, 100, 0).refusal == 0);
+    cut_judged(&t, STANDING, 17, 8, 4, "0555500", 12);
+    CHECK(sets(boughladder_set(LENT(t), 17, 9, 100, 100, 0), 0, 12, 2) && told(&t, BOUGHLADDER_SOUND, 0));
+    give_back(&t);
+}
+
 /* xorshift: the same garbage in every run. */
 static uint64_t state = 88172645463325252u;
 
@@ -785,18 +1266,40 @@ static uint64_t edge(void) {
     }
 }
 
-/* Garbage of some kind: words of any value, words that look right, few words, or a table that calls have made. Says
-   whether it is such a table, in which only recent words were changed. */
+/* Changes one thing of a table that calls have made; it may stay sound. */
+static void tamper(Table *t) {
+    size_t slot = any() % t->s, from = any() % t->s, place = any() % (t->i / 4);
+    while (any() % 20 != 0 && t->slots[from] == 0) from = any() % t->s;
+    switch (any() % 10) {
+        case 0: t->slots[slot] ^= (uint32_t)1 << any() % 32; break;
+        case 1: t->slots[slot] = t->slots[from], t->slots[from] = 0; break;
+        case 2: t->slots[from ^ any() % 4] = t->slots[from]; break;
+        case 3: t->counters[any() % t->c] += (uint32_t)(any() % 3); break;
+        case 4: t->items[4 * place] = edge(); break;
+        case 5: t->items[4 * place + 1] = edge() << any() % 2 * 32; break;
+        case 6: t->items[4 * place + 2 + any() % 2] = edge(); break;
+        case 7: t->slots[slot] = tag_of(0) * 65536 + (uint32_t)place; break;
+        default: /* a twin, where that place is vacant and that slot free */
+            if (t->slots[from] == 0 || t->items[4 * place] != 0) break;
+            t->items[4 * place] = t->items[4 * (t->slots[from] % 65536)];
+            t->slots[from ^ (1 + any() % 3)] = t->slots[from] / 65536 * 65536 + (uint32_t)place;
+    }
+}
+
+/* Garbage of some kind: words of any value, words that look right, few words, or a table that calls have made, in which
+   a few things were changed. Says whether it is such a table, in which only recent words were changed. */
 static int spoil(Table *t) {
-    unsigned kind = any() % 6;
+    unsigned kind = any() % 8;
     uint64_t places = t->i / 4 == 0 ? 1 : t->i / 4;
     if (kind > 3) {
         int made = boughladder_fresh(LENT(*t)) == 0;
         uint64_t n = made ? any() % 60 : 0;
         for (; n > 0; n--)
             CHECK(boughladder_set(LENT(*t), any() % 40, (uint32_t)n, any() % 40, 40, n % 9 == 0).refusal != 1);
-        for (size_t k = 3; k < t->i; k += 4) t->items[k] = any() % 2;
-        if (kind == 5 && t->s > 0) t->slots[any() % t->s] ^= (uint32_t)1 << any() % 32;
+        for (size_t k = 3; k < t->i; k += 4)
+            if (!made || t->items[k - 3] != 0) t->items[k] = any() % 2;
+        if (kind > 4)
+            for (n = made ? 1 + any() % 3 : 0; n > 0; n--) tamper(t);
         return made && kind == 4;
     }
     for (size_t k = 0; k < t->s; k++)
@@ -808,10 +1311,11 @@ static int spoil(Table *t) {
     return 0;
 }
 
-/* How many sets on garbage were late, and how often plain read walked on where read refuses. */
-static unsigned long late, walked_on;
+/* How many sets on garbage were late, how often plain read walked on where read refuses, and what judge said. */
+static unsigned long late, walked_on, conditions[9];
 
-/* Every call on garbage: a refusal changes nothing, and the largest cut is the whole call. */
+/* Every call on garbage: a refusal changes nothing, and the largest cut is the whole call. After a yes no call finds a
+   damaged word or a busy counter, and what it leaves gets a yes. */
 static void garbage(size_t s, size_t c, size_t i) {
     Table t = lend(s, c, i), before = lend(s, c, i), whole = lend(s, c, i);
     size_t bytes = any() % 3 == 0 ? any() % 64 : 5 * i, hand = (size_t)(any() % 3 == 0 ? edge() : any() % (i / 4 + 1));
@@ -820,7 +1324,8 @@ static void garbage(size_t s, size_t c, size_t i) {
     uint64_t issued = any() % 4 == 0 ? edge() : any() % (now % 40 + 1);
     uint32_t permission = (uint32_t)any(), standing = (uint32_t)(any() % 2), refusal, cut;
     BoughladderReading r, served, walk;
-    int made;
+    BoughladderJudgement judgement;
+    int made, yes;
     BoughladderSetting set, set_cut;
     BoughladderEvicting out, out_cut;
     BoughladderListing list;
@@ -828,19 +1333,29 @@ static void garbage(size_t s, size_t c, size_t i) {
     made = spoil(&t);
     copy(&before, &t);
 
+    judgement = judged(&t);
+    yes = judgement.condition == BOUGHLADDER_SOUND;
+    CHECK(told(&t, judgement.condition, judgement.at) && (yes || !made));
+    conditions[judgement.condition]++;
     r = boughladder_read(LENT(t), animal, limit, now);
     CHECK(same(&t, &before) && r.refusal <= 10 && in_range(r, limit));
+    CHECK((r.refusal == BOUGHLADDER_BAD_SHAPE) == (judgement.condition == BOUGHLADDER_WRONG_LENGTH));
+    CHECK(!yes || r.refusal <= 3);
     walk = plainly(&t, animal, limit, now);
-    CHECK(same(&t, &before) && alike(walk, walked(&t, animal, limit, now)) && (!made || alike(walk, r)));
+    CHECK(same(&t, &before) && alike(walk, walked(&t, animal, limit, now)) && (!yes || alike(walk, r)));
     walked_on += walk.kind != BOUGHLADDER_ABSENT && r.refusal != 0;
     served = boughladder_serve(LENT(t), animal, limit, now);
     CHECK(alike(served, r));
     CHECK(same(&t, &before) || r.kind == BOUGHLADDER_FRESH);
+    CHECK(!yes || is_sound(&t));
     copy(&t, &before);
     CHECK(boughladder_find(LENT(t), animal).refusal <= 10 && same(&t, &before));
 
     set = boughladder_set(LENT(t), animal, permission, issued, now, standing);
     CHECK(set.refusal <= 11 && (set.refusal == 0 || same(&t, &before)));
+    CHECK(!yes || (set.refusal != BOUGHLADDER_DAMAGED && set.refusal != BOUGHLADDER_BUSY && is_sound(&t)));
+    if (yes && set.refusal == 0)
+        CHECK(reads(boughladder_read(LENT(t), animal, 720, issued), 0, BOUGHLADDER_FRESH, permission, 720));
     late += set.refusal == BOUGHLADDER_LATE;
     copy(&whole, &t), copy(&t, &before);
     set_cut = boughladder_set_cut(LENT(t), animal, permission, issued, now, standing, UINT64_MAX);
@@ -852,6 +1367,8 @@ static void garbage(size_t s, size_t c, size_t i) {
 
     refusal = boughladder_delete(LENT(t), animal);
     CHECK(refusal <= 10 && (refusal == 0 || same(&t, &before)));
+    CHECK(!yes || (refusal != BOUGHLADDER_DAMAGED && refusal != BOUGHLADDER_BUSY && is_sound(&t)));
+    if (yes && refusal == 0) CHECK(reads(boughladder_read(LENT(t), animal, 720, 720), 0, BOUGHLADDER_ABSENT, 0, 0));
     copy(&whole, &t), copy(&t, &before);
     cut = boughladder_delete_cut(LENT(t), animal, UINT64_MAX);
     CHECK(cut == refusal && same(&t, &whole));
@@ -862,6 +1379,7 @@ static void garbage(size_t s, size_t c, size_t i) {
 
     out = boughladder_evict(LENT(t), hand);
     CHECK(out.refusal < 10 && (out.refusal == 0 || (out.hand == hand && same(&t, &before))));
+    CHECK(!yes || (out.refusal != BOUGHLADDER_DAMAGED && out.refusal != BOUGHLADDER_BUSY && is_sound(&t)));
     copy(&whole, &t), copy(&t, &before);
     out_cut = boughladder_evict_cut(LENT(t), hand, UINT64_MAX);
     CHECK(evicts(out_cut, out.refusal, out.victim, out.looked, out.hand) && same(&t, &whole));
@@ -875,11 +1393,78 @@ static void garbage(size_t s, size_t c, size_t i) {
     refusal = boughladder_fresh(LENT(t));
     CHECK(refusal == r.refusal || r.refusal != 1);
     CHECK(refusal == 1 ? same(&t, &before) : refusal == 0);
+    CHECK(told(&t, refusal == 1 ? BOUGHLADDER_WRONG_LENGTH : BOUGHLADDER_SOUND, refusal == 1 ? judgement.at : 0));
     free(buffer), give_back(&t), give_back(&before), give_back(&whole);
 }
 
+/* A table as another workshop may build it: any of the places and of the home slots, any even counters, any stamps and
+   recent words. */
+static Table built(void) {
+    Table t = lend((size_t)8 << any() % 4, 1 + any() % 6, 4 * (1 + any() % 12));
+    for (size_t k = 0; k < t.c; k++) t.counters[k] = (uint32_t)any() / 2 * 2;
+    for (size_t place = 0; place < t.i / 4; place++) {
+        uint64_t animal = 1 + any() % 40;
+        uint32_t word = tag_of(animal) * 65536 + (uint32_t)place;
+        if (any() % 3 == 0 || plainly(&t, animal, 0, 0).kind != BOUGHLADDER_ABSENT) continue;
+        t.items[4 * place] = animal, t.items[4 * place + 1] = (uint32_t)any();
+        t.items[4 * place + 2] = edge(), t.items[4 * place + 3] = edge();
+        for (int tries = 0; tries < 100 && slot_of(&t, place) == t.s; tries++) {
+            size_t slot = any() % t.s;
+            if (t.slots[slot] == 0 && belongs(&t, slot, word)) t.slots[slot] = word;
+        }
+        if (slot_of(&t, place) == t.s) memset(t.items + 4 * place, 0, 32);
+    }
+    return t;
+}
+
+/* It gets a yes, and finished calls on it answer as on a table of our own: none finds it damaged or busy, plain read
+   agrees with read after each of them, and it gets a yes again. */
+static void another_workshop(int tables) {
+    for (; tables > 0; tables--) {
+        Table t = built();
+        size_t hand = 0;
+        CHECK(told(&t, BOUGHLADDER_SOUND, 0));
+        agree(&t);
+        for (int calls = 0; calls < 8; calls++) {
+            uint64_t animal = 1 + any() % 40, now = any() % 900;
+            uint32_t permission = (uint32_t)any(), refusal;
+            BoughladderReading r;
+            BoughladderEvicting out;
+            switch (any() % 5) {
+                case 0:
+                case 1:
+                    refusal = boughladder_set(LENT(t), animal, permission, now, now, 0).refusal;
+                    r = boughladder_read(LENT(t), animal, 720, now);
+                    CHECK(refusal == 0 ? reads(r, 0, BOUGHLADDER_FRESH, permission, 720)
+                                       : refusal == BOUGHLADDER_LATE ? r.kind != BOUGHLADDER_ABSENT
+                                                                     : r.kind == BOUGHLADDER_ABSENT);
+                    break;
+                case 2:
+                    r = boughladder_read(LENT(t), animal, 720, now);
+                    refusal = boughladder_delete(LENT(t), animal);
+                    CHECK((refusal == BOUGHLADDER_NOBODY) == (r.kind == BOUGHLADDER_ABSENT));
+                    CHECK(reads(boughladder_read(LENT(t), animal, 720, now), 0, BOUGHLADDER_ABSENT, 0, 0));
+                    break;
+                case 3:
+                    r = boughladder_read(LENT(t), animal, 720, now);
+                    CHECK(alike(boughladder_serve(LENT(t), animal, 720, now), r));
+                    refusal = r.refusal;
+                    break;
+                default:
+                    out = boughladder_evict(LENT(t), hand);
+                    refusal = out.refusal, hand = out.hand;
+                    CHECK(refusal != 0 || plainly(&t, out.victim, 0, 0).kind == BOUGHLADDER_ABSENT);
+            }
+            CHECK(refusal == 0 || (refusal >= 5 && refusal <= 7) || refusal == BOUGHLADDER_LATE);
+            CHECK(told(&t, BOUGHLADDER_SOUND, 0));
+            agree(&t);
+        }
+        give_back(&t);
+    }
+}
+
 /* A run of calls over a table, and the same calls over the runs of a copy: the same replies and the same words. Without
-   cuts plain read agrees with read after each of them. */
+   cuts plain read agrees with read after each of them, and judge says yes; with cuts it tells the odd counter. */
 static void twins(int rounds, int cuts_too) {
     Table a = lend(32, 4, 40), b = lend(32, 4, 40);
     BoughladderTable t = {a.slots, a.s, a.counters, a.c, a.items, a.i};
@@ -955,6 +1540,7 @@ static void twins(int rounds, int cuts_too) {
         }
         CHECK(same(&a, &b) && memcmp(one, other, sizeof one) == 0);
         if (!cuts_too) agree(&a);
+        else CHECK(odd_counter(&a) == a.c ? told(&a, 0, 0) : told(&a, BOUGHLADDER_ODD_COUNTER, odd_counter(&a)));
         /* A cut may leave a counter odd, and then all is busy: begin again now and then. */
         if (any() % 50 == 0) CHECK(boughladder_table_fresh(&t) == boughladder_fresh(LENT(b)) && same(&a, &b));
     }
@@ -965,7 +1551,9 @@ int main(int n, char **words) {
     int rounds = n > 1 ? atoi(words[1]) : 400;
     layout(), hashes(), shapes(), sizes(), nothing_lent(), lanes(), texts(), records();
     ages(), lefts(), issues(), turns(), moves(), clocks(), the_list(), cuts(), plain(), plain_walks();
-    twins(3000, 1), twins(300, 0);
+    wrong_lengths(), words_judged(), slots_judged(), places_judged(), conditions_in_turn(), ends_judged();
+    cuts_judged();
+    twins(3000, 1), twins(300, 0), another_workshop(60);
     /* Each length from 0 on, of one run beside two good ones. */
     for (size_t l = 0; l <= 2100; l++) {
         garbage(l, 1 + any() % 8, 4 * (1 + any() % 8));
@@ -978,6 +1566,7 @@ int main(int n, char **words) {
         for (int small = 0; small < 8; small++) garbage((size_t)8 << any() % 4, 1 + any() % 4, 4 * (1 + any() % 24));
     }
     CHECK(late > 0 && walked_on > 0);
+    for (int k = 0; k < 9; k++) CHECK(conditions[k] > 0);
     if (failed != 0) {
         printf("%lu checks failed\n", failed);
         return 1;

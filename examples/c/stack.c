@@ -33,15 +33,16 @@ static void evict(void) { told = boughladder_table_evict(&table, hand).hand; }
 static void evict_cut(void) { told = boughladder_table_evict_cut(&table, hand, k).hand; }
 static void list(void) { told = boughladder_table_list(&table, buffer, sizeof buffer).count; }
 static void plain_read(void) { told = boughladder_table_plain_read(&table, animal, 720, 100).kind; }
+static void judge(void) { told = boughladder_table_judge(&table).condition; }
 
 static struct {
     const char *name;
     void (*call)(void);
     size_t may, took;
-} calls[] = {{"fresh", fresh, OTHER, 0},           {"read", read_one, OTHER, 0},      {"serve", serve, OTHER, 0},
-             {"find", find, OTHER, 0},             {"set", set, SET, 0},              {"set_cut", set_cut, SET, 0},
-             {"delete", delete_one, OTHER, 0},     {"delete_cut", delete_cut, OTHER, 0}, {"evict", evict, OTHER, 0},
-             {"evict_cut", evict_cut, OTHER, 0}, {"list", list, OTHER, 0},
+} calls[] = {{"fresh", fresh, OTHER, 0},         {"read", read_one, OTHER, 0},     {"serve", serve, OTHER, 0},
+             {"find", find, OTHER, 0},           {"judge", judge, OTHER, 0},       {"set", set, SET, 0},
+             {"set_cut", set_cut, SET, 0},       {"delete", delete_one, OTHER, 0}, {"delete_cut", delete_cut, OTHER, 0},
+             {"evict", evict, OTHER, 0},         {"evict_cut", evict_cut, OTHER, 0}, {"list", list, OTHER, 0},
              {"plain_read", plain_read, OTHER, 0}};
 enum { CALLS = sizeof calls / sizeof calls[0] };
 

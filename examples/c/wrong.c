@@ -19,6 +19,8 @@ uint16_t wrong(uint32_t *pointer, const BoughladderTable *read_only, uint64_t li
     answer = (uint16_t)(answer + boughladder_table_set_standing(&table, 1, 2, 3, 4).refusal);
     answer = (uint16_t)(answer + boughladder_set(slots, 256, counters, 16, items, 800, 1, 2, 3, 4, 0).refusal);
     answer = (uint16_t)(answer + (boughladder_table_read(&table, 1, limit, 3).left == BOUGHLADDER_LEAST_LEFT));
+    answer = (uint16_t)(answer + boughladder_table_judge(read_only).condition);
+    answer = (uint16_t)(answer + boughladder_judge(slots, 256, counters, 16, items, 800).at);
 #elif WRONG == 1 /* slots and counters swapped */
     BoughladderTable other = BOUGHLADDER_TABLE(counters, slots, items);
 #elif WRONG == 2 /* a pointer, whose length nobody knows */
@@ -57,6 +59,14 @@ uint16_t wrong(uint32_t *pointer, const BoughladderTable *read_only, uint64_t li
     print(boughladder_plain_read(items, 800, 1, 720, 3).age);
 #elif WRONG == 19 /* only the name was changed: a negative number is larger than any limit */
     answer = boughladder_table_serve(&table, 1, 720, 3).left <= limit;
+#elif WRONG == 20 /* a judgement that nobody looks at */
+    boughladder_judge(slots, 256, counters, 16, items, 800);
+#elif WRONG == 21 /* the same over a table */
+    boughladder_table_judge(&table);
+#elif WRONG == 22 /* slots and items swapped; of slots and counters no compiler can tell it */
+    answer = (uint16_t)boughladder_judge(items, 800, counters, 16, slots, 256).condition;
+#elif WRONG == 23 /* judge refuses nothing: a judgement whose refusal is asked for */
+    answer = (uint16_t)boughladder_table_judge(&table).refusal;
 #endif
 #if WRONG >= 1 && WRONG <= 5
     answer = (uint16_t)other.slots_length;

@@ -36,6 +36,12 @@ pub struct Listing {
     pub count: usize,
 }
 
+#[repr(C)]
+pub struct Judgement {
+    pub condition: u32,
+    pub at: usize,
+}
+
 #[rustfmt::skip]
 extern "C" {
     pub fn boughladder_fresh(s: *mut u32, sl: usize, c: *mut u32, cl: usize, i: *mut u64, il: usize) -> u32;
@@ -60,4 +66,5 @@ extern "C" {
     pub fn boughladder_list(s: *const u32, sl: usize, c: *const u32, cl: usize, i: *const u64, il: usize,
         buffer: *mut u8, length: usize) -> Listing;
     pub fn boughladder_plain_read(i: *const u64, il: usize, animal: u64, limit: u64, now: u64) -> Reading;
+    pub fn boughladder_judge(s: *const u32, sl: usize, c: *const u32, cl: usize, i: *const u64, il: usize) -> Judgement;
 }

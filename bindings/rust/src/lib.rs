@@ -13,7 +13,7 @@
 //!
 //! Every call is safe on slices of any length and contents: it ends, touches nothing outside of them, and says what it
 //! found. Calls that write take `&mut self`, serve too, so no other call runs beside them. Two threads share a table in
-//! a `Mutex`, or in a `RwLock`: reads, plain reads, finds and lists may run beside each other.
+//! a `Mutex`, or in a `RwLock`: reads, plain reads, finds, lists and judges may run beside each other.
 //!
 //! A set takes two minutes, issued before now. `issued` is when the office gave the permission, as the list says; it
 //! becomes the stamp. `now` is the gate's clock. Swapped, they are [`Refusal::BadTime`] where issued is earlier than
@@ -194,6 +194,99 @@ pub struct Evicted {
     pub hand: usize,
 }
 
+/// What [`judge`] found broken: the first condition in this order. `at` is what the last words say.
+#[derive(Clone, Copy, Debug, PartialEq, Eq)]
+pub enum Condition {
+    /// A run has a wrong length; the run: 0 slots, 1 counters, 2 items.
+    WrongLength,
+    /// A slot word that no call writes; the slot.
+    DamagedWord,
+    /// A write was cut off; the counter.
+    OddCounter,
+    /// The place that a slot points to holds no animal, or one with another tag or in other buckets; the slot.
+    StraySlot,
+    /// No slot points to a place that is taken, or several do; the place.
+    NotOneSlot,
+    /// Another place holds the same animal; the place.
+    Twin,
+    /// A permission above 32 bits, where taken or vacant; the place.
+    WidePermission,
+    /// A vacant place whose other words are not all 0; the place.
+    VacantNotZero,
+    /// A number that this crate does not know: the archive is of another version.
+    Unknown(u32),
+}
+
+const CONDITIONS: [Condition; 8] = [
+    Condition::WrongLength,
+    Condition::DamagedWord,
+    Condition::OddCounter,
+    Condition::StraySlot,
+    Condition::NotOneSlot,
+    Condition::Twin,
+    Condition::WidePermission,
+    Condition::VacantNotZero,
+];
+
+impl Condition {
+    /// The condition of a number, from 1 on.
+    pub fn from_number(number: u32) -> Condition {
+        let known = CONDITIONS.iter().find(|condition| condition.number() == number);
+        known.copied().unwrap_or(Condition::Unknown(number))
+    }
+
+    pub fn number(self) -> u32 {
+        match self {
+            Condition::WrongLength => 1,
+            Condition::DamagedWord => 2,
+            Condition::OddCounter => 3,
+            Condition::StraySlot => 4,
+            Condition::NotOneSlot => 5,
+            Condition::Twin => 6,
+            Condition::WidePermission => 7,
+            Condition::VacantNotZero => 8,
+            Condition::Unknown(number) => number,
+        }
+    }
+}
+
+impl fmt::Display for Condition {
+    fn fmt(&self, f: &mut fmt::Formatter<'_>) -> fmt::Result {
+        f.write_str(match self {
+            Condition::WrongLength => "a run has a wrong length",
+            Condition::DamagedWord => "a slot word is damaged",
+            Condition::OddCounter => "a counter is odd",
+            Condition::StraySlot => "a slot does not point to an animal that belongs there",
+            Condition::NotOneSlot => "not exactly one slot points to a place that is taken",
+            Condition::Twin => "two places hold the same animal",
+            Condition::WidePermission => "a permission does not fit 32 bits",
+            Condition::VacantNotZero => "a vacant place is not all zero",
+            Condition::Unknown(_) => "no condition number",
+        })
+    }
+}
+
+/// What [`judge`] says.
+#[must_use]
+#[derive(Clone, Copy, Debug, PartialEq, Eq)]
+pub enum Judgement {
+    /// A yes: no condition is broken.
+    Sound,
+    /// The first condition that is broken, and the lowest run, slot, counter or place that breaks it.
+    Broken { condition: Condition, at: usize },
+}
+
+impl fmt::Display for Judgement {
+    fn fmt(&self, f: &mut fmt::Formatter<'_>) -> fmt::Result {
+        match self {
+            Judgement::Sound => f.write_str("sound"),
+            Judgement::Broken { condition, at } => {
+                write!(f, "condition {} at {}: {}", condition.number(), at, condition)
+            }
+        }
+    }
+}
+
 /// One record of a list.
 #[derive(Clone, Copy, Debug, PartialEq, Eq)]
 pub struct Record {
@@ -312,6 +405,29 @@ pub fn plain_read(items: &[u64], animal: u64, limit: u64, now: u64) -> Result<Re
     told(unsafe { ffi::boughladder_plain_read(items.as_ptr(), items.len(), animal, limit, now) })
 }
 
+/// Judges memory that others have built or that a cabinet brings: a yes where no condition is broken, else the first
+/// that is, and where. What finished calls leave, from fresh on, gets a yes. After a yes, whoever built the table, it
+/// answers from then on as the order demands. It refuses nothing and changes nothing.
+///
+/// Slots and counters have one type: swapped, they may get a yes. [`Table::judge`] takes them by name.
+pub fn judge(slots: &[u32], counters: &[u32], items: &[u64]) -> Judgement {
+    // Sound as above.
+    let r = unsafe {
+        ffi::boughladder_judge(
+            slots.as_ptr(),
+            slots.len(),
+            counters.as_ptr(),
+            counters.len(),
+            items.as_ptr(),
+            items.len(),
+        )
+    };
+    match r.condition {
+        0 => Judgement::Sound,
+        number => Judgement::Broken { condition: Condition::from_number(number), at: r.at },
+    }
+}
+
 impl Table<'_> {
     /// Makes a table of the memory: 0 in every word. The only call that helps a busy counter.
     pub fn fresh(&mut self) -> Result<(), Refusal> {
@@ -392,5 +508,10 @@ impl Table<'_> {
     /// slots and counters, and what it answers on a damaged table opens no gate.
     pub fn plain_read(&self, animal: u64, limit: u64, now: u64) -> Result<Reading, Refusal> {
         plain_read(self.items, animal, limit, now)
+    }
+
+    /// [`judge`] of the three runs: a yes, or the first condition that is broken, and where.
+    pub fn judge(&self) -> Judgement {
+        judge(self.slots, self.counters, self.items)
     }
 }

@@ -526,6 +526,248 @@ fn plain_read_walks_on() {
     }
 }
 
+// Judge over the table and over its slices, which say the same: None for a yes, or the condition and where.
+fn judged(table: &Table) -> Option<(Condition, usize)> {
+    let said = judge(table.slots, table.counters, table.items);
+    assert_eq!(table.judge(), said);
+    match said {
+        Judgement::Sound => None,
+        Judgement::Broken { condition, at } => Some((condition, at)),
+    }
+}
+
+// Animals 11, 13 and 14 at places 0, 2 and 3; 1 and 4 are vacant. Of two buckets each slot is a home.
+fn herd(memory: &mut Memory) -> Table<'_> {
+    let mut table = memory.table();
+    table.fresh().unwrap();
+    for animal in 11..=14 {
+        table.set(animal, 1, 100, 100).unwrap();
+    }
+    table.delete(12).unwrap();
+    assert_eq!(judged(&table), None);
+    table
+}
+
+#[test]
+fn judge_over_a_day() {
+    let mut memory = lent(32, 4, items(5));
+    let mut table = memory.table();
+    let day: [fn(&mut Table) -> bool; 15] = [
+        |t| t.fresh().is_ok(),
+        |t| t.set(4711, 1, 100, 100).is_ok(),
+        |t| t.set(4712, 0, 100, 100).is_ok(),
+        |t| t.set(4713, u32::MAX, 100, 100).is_ok(),
+        |t| t.serve(4711, 720, 820) == fresh(1, 0),
+        |t| t.set_standing(900, 2, 840, 840).is_ok(),
+        |t| t.set(4711, 3, 890, 900).is_ok(),
+        |t| t.set(4711, 1, 100, 902) == Err(Refusal::Late),
+        |t| t.delete(4711).is_ok(), // place 0 is vacant now
+        |t| t.delete(4711) == Err(Refusal::Nobody),
+        |t| t.set(4714, 1, 890, 902).is_ok(),
+        |t| t.set(4715, 1, 902, 902).is_ok(),
+        |t| t.set(4716, 1, 902, 902) == Err(Refusal::NoPlace),
+        |t| t.evict(1).is_ok(),
+        |t| t.set(4716, 1, 902, 902).is_ok(),
+    ];
+    for step in day {
+        assert!(step(&mut table));
+        assert_eq!(judged(&table), None);
+    }
+
+    // And where an entry is moved to make room.
+    let mut memory = lent(slots(4), 4, items(9));
+    let mut table = memory.table();
+    table.fresh().unwrap();
+    for animal in [358, 687, 1012, 1334, 248, 734, 913, 1710, 5] {
+        table.set(animal, 1, 100, 100).unwrap();
+        assert_eq!(judged(&table), None);
+    }
+}
+
+#[test]
+fn judge_lengths() {
+    for (s, c, i, run) in [
+        (8, 1, 4, None),
+        (8192, 1024, 16384, None),
+        (4, 1, 4, Some(0)),
+        (12, 1, 4, Some(0)),
+        (16384, 1, 4, Some(0)),
+        (8, 0, 4, Some(1)),
+        (8, 1025, 4, Some(1)),
+        (8, 1, 0, Some(2)),
+        (8, 1, 6, Some(2)),
+        (8, 1, 16388, Some(2)),
+        (0, 0, 0, Some(0)),
+        (12, 0, 4, Some(0)),
+        (12, 1, 6, Some(0)),
+        (8, 0, 6, Some(1)),
+    ] {
+        let (slots, counters, items) = (vec![0; s], vec![0; c], vec![0; i]);
+        let said = match run {
+            None => Judgement::Sound,
+            Some(at) => Judgement::Broken { condition: Condition::WrongLength, at },
+        };
+        assert_eq!(judge(&slots, &counters, &items), said, "{s} {c} {i}");
+    }
+}
+
+// Words of the three runs: run, index, word.
+type Change = (usize, usize, u64);
+
+#[test]
+fn judge_conditions() {
+    let mut memory = lent(slots(2), 3, items(5));
+    let table = herd(&mut memory);
+    let good = (table.slots.to_vec(), table.counters.to_vec(), table.items.to_vec());
+    let slot_of = |place| good.0.iter().position(|word| *word != 0 && *word as usize % 65536 == place).unwrap();
+    let word_of = |place| u64::from(good.0[slot_of(place)]);
+    let free: Vec<usize> = (0..8).filter(|slot| good.0[*slot] == 0).collect();
+    // What is said of the herd with these changes.
+    let broken = |changes: &[Change]| {
+        let mut memory = Memory { slots: good.0.clone(), counters: good.1.clone(), items: good.2.clone() };
+        for (run, index, word) in changes.iter().copied() {
+            match run {
+                0 => memory.slots[index] = word as u32,
+                1 => memory.counters[index] = word as u32,
+                _ => memory.items[index] = word,
+            }
+        }
+        judged(&memory.table())
+    };
+
+    // Damaged words: no tag, a tag or a place that is too large. The lowest is told.
+    for damage in [4, 256 * 65536, 65536 + 5, u64::from(u32::MAX)] {
+        for slot in 0..8 {
+            assert_eq!(broken(&[(0, slot, damage)]), Some((Condition::DamagedWord, slot)));
+            assert_eq!(broken(&[(0, slot, damage), (0, 7, damage)]), Some((Condition::DamagedWord, slot)));
+        }
+    }
+    // Odd counters, one of which no call looks at.
+    for n in 0..3 {
+        let odd = [(1, n, 1), (1, 2, u64::from(u32::MAX))];
+        assert_eq!(broken(&odd), Some((Condition::OddCounter, n)));
+        assert_eq!(broken(&[(1, n, u64::from(u32::MAX - 1))]), None);
+    }
+    // A slot that points to a vacant place, or with another tag.
+    let strays = [(0, free[1], 65536 + 4), (0, free[2], 65536 + 1)];
+    assert_eq!(broken(&strays), Some((Condition::StraySlot, free[1])));
+    for place in [0, 2, 3] {
+        let (slot, word) = (slot_of(place), word_of(place));
+        assert_eq!(broken(&[(0, slot, word ^ 65536)]), Some((Condition::StraySlot, slot)));
+        // No slot for her place; two; her word in another slot.
+        assert_eq!(broken(&[(0, slot, 0)]), Some((Condition::NotOneSlot, place)));
+        assert_eq!(broken(&[(0, free[0], word)]), Some((Condition::NotOneSlot, place)));
+        assert_eq!(broken(&[(0, slot, 0), (0, free[0], word)]), None);
+        // Twins: the lower place is told. Where the second has no slot, that comes first.
+        for second in [1, 4] {
+            let entry = word / 65536 * 65536 + second as u64;
+            let twin = [(2, 4 * second, good.2[4 * place]), (0, free[0], entry)];
+            assert_eq!(broken(&twin), Some((Condition::Twin, place.min(second))));
+            assert_eq!(broken(&twin[..1]), Some((Condition::NotOneSlot, second)));
+        }
+    }
+    assert_eq!(broken(&[(0, slot_of(3), 0), (0, slot_of(2), 0)]), Some((Condition::NotOneSlot, 2)));
+    // A wide permission, where taken or vacant: that comes before a vacant place that is not all 0.
+    for place in 0..5 {
+        let wide = [(2, 4 * place + 1, 1 << 32), (2, 4 + 2, 5)];
+        assert_eq!(broken(&wide), Some((Condition::WidePermission, place)));
+        for (part, word) in [(1, u64::from(u32::MAX)), (2, 1), (2, STANDING), (3, 1), (3, u64::MAX)] {
+            let vacant = place == 1 || place == 4;
+            let said = if vacant { Some((Condition::VacantNotZero, place)) } else { None };
+            assert_eq!(broken(&[(2, 4 * place + part, word)]), said);
+        }
+    }
+    // All at once, and one after the other is put right.
+    let every = [
+        (2, 4 + 2, 1),
+        (2, 4 * 3 + 1, u64::MAX),
+        (2, 4 * 4, good.2[4 * 2]),
+        (0, free[0], word_of(2) / 65536 * 65536 + 4),
+        (0, slot_of(3), 0),
+        (0, free[1], 65536 + 1),
+        (1, 2, 7),
+        (0, free[2], 5),
+    ];
+    for (kept, said) in [
+        (8, Some((Condition::DamagedWord, free[2]))),
+        (7, Some((Condition::OddCounter, 2))),
+        (6, Some((Condition::StraySlot, free[1]))),
+        (5, Some((Condition::NotOneSlot, 3))),
+        (4, Some((Condition::Twin, 2))),
+        (2, Some((Condition::WidePermission, 3))),
+        (1, Some((Condition::VacantNotZero, 1))),
+        (0, None),
+    ] {
+        assert_eq!(broken(&every[..kept]), said);
+    }
+}
+
+#[test]
+fn judge_of_a_cut_call() {
+    let calls: [(u64, fn(&mut Table, u64) -> bool); 5] = [
+        (7, |t, k| t.set_cut(15, 5, 90, 100, k).is_ok()),
+        (7, |t, k| t.set_standing_cut(15, 5, 90, 100, k).is_ok()),
+        (5, |t, k| t.set_cut(11, 5, 100, 100, k).is_ok()),
+        (7, |t, k| t.delete_cut(11, k).is_ok()),
+        // Three marks are taken first, and that leaves it sound.
+        (7, |t, k| t.evict_cut(0, k + 3).is_ok()),
+    ];
+    for (stores, cut) in calls {
+        for k in 0..=8 {
+            let mut memory = lent(slots(2), 3, items(5));
+            let mut table = herd(&mut memory);
+            assert!(cut(&mut table, k));
+            let odd = Some((Condition::OddCounter, 0));
+            assert_eq!(judged(&table), if 0 < k && k < stores { odd } else { None }, "{k} of {stores}");
+            table.fresh().unwrap();
+            assert_eq!(judged(&table), None);
+        }
+    }
+}
+
+#[test]
+fn judge_of_another_workshop() {
+    // The same herd in other places and slots, with other even counters and recent words.
+    let mut memory = lent(slots(2), 3, items(5));
+    let own = herd(&mut memory);
+    let tag = |place| own.slots.iter().find(|word| **word != 0 && **word % 65536 == place).unwrap() / 65536 * 65536;
+    let (eleven, thirteen, fourteen) = (tag(0), tag(2), tag(3));
+    let mut memory = Memory {
+        slots: vec![0, 0, fourteen, 0, 0, eleven + 4, 0, thirteen + 1],
+        counters: vec![40, u32::MAX - 1, 6],
+        items: vec![14, 1, 100, 7, 13, 1, STANDING, 0, 0, 0, 0, 0, 0, 0, 0, 0, 11, 1, 100, u64::MAX],
+    };
+    let mut table = memory.table();
+    assert_eq!(judged(&table), None);
+    let day: [fn(&mut Table) -> bool; 6] = [
+        |t| t.read(11, 720, 820) == fresh(1, 0),
+        |t| t.serve(13, 720, 820) == fresh(1, 720),
+        |t| t.delete(14).is_ok(),
+        |t| t.set(15, 2, 200, 200).is_ok(),
+        |t| t.set(11, 3, 200, 200) == stored(0, 0),
+        |t| t.evict(0).is_ok(),
+    ];
+    for step in day {
+        assert!(step(&mut table));
+        assert_eq!(judged(&table), None);
+        agree(&table, &[11, 13, 14, 15]);
+    }
+}
+
+#[test]
+fn judgements() {
+    for number in 1..=8 {
+        assert_eq!(Condition::from_number(number).number(), number);
+        assert_ne!(Condition::from_number(number), Condition::Unknown(number));
+    }
+    assert_eq!(Condition::from_number(8), Condition::VacantNotZero);
+    assert_eq!(Condition::from_number(9), Condition::Unknown(9));
+    assert_eq!(Condition::OddCounter.to_string(), "a counter is odd");
+    assert_eq!(Judgement::Sound.to_string(), "sound");
+    let twin = Judgement::Broken { condition: Condition::Twin, at: 2 };
+    assert_eq!(twin.to_string(), "condition 6 at 2: two places hold the same animal");
+}
+
 #[test]
 fn lanes() {
     let by = |permission| lane(fresh(permission, 0));

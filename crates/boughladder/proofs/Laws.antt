@@ -12,9 +12,12 @@ use Rattle.model.specs.Promised.{CutAs, FreshAs, WholeAs}
 use Rattle.model.proofs.Demand1.{told-small}
 use Rattle.plain.specs.Plain.{plain-read}
 use Rattle.plain.proofs.Says.{plain-small}
+use Rattle.judgement.specs.Verdict.{Verdict}
+use Rattle.judgement.specs.Said.{said}
+use Rattle.judgement.specs.declared.Judgement.{Judgement}
 use Rattle.evicting.specs.Evict.{EvictCut, Evicted}
 use Rattle.listing.specs.List.{ListedAs}
-use Rattle.clothes.specs.Clothes.{evicting-clothes, listing-clothes, number, turned-clothes, reading-clothes, finding-clothes}
+use Rattle.clothes.specs.Clothes.{evicting-clothes, listing-clothes, number, turned-clothes, reading-clothes, finding-clothes, judgement-clothes}
 use Rattle.boughladder.specs.Dressed.{CutIn, FreshIn, ListIn, WholeIn}
 use Rattle.clothes.specs.declared.BoughladderEvicting.{BoughladderEvicting}
 use Rattle.clothes.specs.declared.BoughladderListing.{BoughladderListing}
@@ -24,6 +27,7 @@ use Rattle.model.specs.declared.Reading.{Reading}
 use Rattle.model.specs.declared.Finding.{Finding}
 use Rattle.clothes.specs.declared.BoughladderReading.{BoughladderReading}
 use Rattle.clothes.specs.declared.BoughladderFinding.{BoughladderFinding}
+use Rattle.clothes.specs.declared.BoughladderJudgement.{BoughladderJudgement}
 
 module _ (W : Ways) (m : Mem) (c : Call) where
   -- an answer's number is one of document 01's, and those are small
@@ -34,12 +38,15 @@ module _ (W : Ways) (m : Mem) (c : Call) where
 pub plain-told-small : (l : List ℕ) (x limit now : ℕ) {a : Answer} → a ≡ plain-read l x limit now → number a < 65536
 plain-told-small l x limit now e = rw e (plain-small l x limit now)
 
--- read, the plain engine and find
+-- read, the plain engine, find and judge
 pub told-read : {a : Answer} (t : Reading) {r : BoughladderReading} → r ≡ reading-clothes (said-reading t) → said-reading t ≡ a → r ≡ reading-clothes a
 told-read t e h = e ∙ ap reading-clothes h
 
 pub told-find : {a : Answer} (t : Finding) {r : BoughladderFinding} → r ≡ finding-clothes (said-finding t) → said-finding t ≡ a → r ≡ finding-clothes a
 told-find t e h = e ∙ ap finding-clothes h
+
+pub told-judge : {v : Verdict} (t : Judgement) {r : BoughladderJudgement} → r ≡ judgement-clothes (said t) → said t ≡ v → r ≡ judgement-clothes v
+told-judge t e h = e ∙ ap judgement-clothes h
 
 module _ (W : Ways) {m m′ : Mem} {c : Call} {R : Type 0} {clothes : Answer → R} {a : Answer} {r : R} (e : r ≡ clothes a) where
   pub told-whole : WholeAs W m c m′ a → WholeIn W clothes m c m′ r

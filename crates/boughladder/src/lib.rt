@@ -8,10 +8,12 @@ ghost use Rattle.model.specs.Hash.{fnv-step};
 ghost use Rattle.model.specs.Calling.{delete, evict, find, grant, read, serve, set-animal};
 ghost use Rattle.model.specs.Lent.{lent-call};
 ghost use Rattle.plain.specs.Plain.{plain-read};
-ghost use Rattle.clothes.specs.Clothes.{number, reading-clothes, finding-clothes, setting-clothes, evicting-clothes};
+ghost use Rattle.judgement.specs.Verdict.{judgement};
+ghost use Rattle.clothes.specs.Clothes.{number, reading-clothes, finding-clothes, setting-clothes, evicting-clothes, judgement-clothes};
 ghost use Rattle.boughladder.specs.Dressed.{WholeIn, CutIn, FreshIn, ListIn};
 use clothes::BoughladderEvicting;
 use clothes::BoughladderFinding;
+use clothes::BoughladderJudgement;
 use clothes::BoughladderListing;
 use clothes::BoughladderReading;
 use clothes::BoughladderSetting;
@@ -226,4 +228,17 @@ pub extern "C" fn boughladder_plain_read(
 {
     let told = plain::read(items, animal, limit, minute);
     clothes::dress_reading(told)
+}
+
+// The judge of a memory dump: it refuses nothing and stores nothing.
+#[no_mangle]
+pub extern "C" fn boughladder_judge(
+    slots: &[u32],
+    counters: &[u32],
+    items: &[u64],
+) -> BoughladderJudgement
+    ensures { λ r. ⌜ r ≡ judgement-clothes (judgement four (mem (now (slots .entry)) (now (counters .entry)) (now (items .entry)))) ⌝ }
+{
+    let told = judging::judge(slots, counters, items);
+    clothes::dress_judgement(told)
 }

@@ -3,12 +3,15 @@ use Prim.Native.Nat.{ℕ, _<_, _^_}
 use mathlib.Core.Path.{_≡_, sym, ap, _∙_, subst}
 use mathlib.Core.List.{List}
 use Rattle.model.specs.Said.{said-evicting, said-finding, said-listing, said-reading, said-setting}
-use Rattle.clothes.specs.Clothes.{finding-clothes, listing-clothes, number, reading-clothes, setting-clothes, turned-clothes}
+use Rattle.judgement.specs.Said.{said}
+use Rattle.judgement.specs.declared.Judgement.{Judgement}
+use Rattle.clothes.specs.Clothes.{finding-clothes, judgement-clothes, listing-clothes, number, reading-clothes, setting-clothes, turned-clothes}
 use Rattle.clothes.specs.declared.BoughladderReading.{BoughladderReading}
 use Rattle.clothes.specs.declared.BoughladderFinding.{BoughladderFinding}
 use Rattle.clothes.specs.declared.BoughladderSetting.{BoughladderSetting}
 use Rattle.clothes.specs.declared.BoughladderEvicting.{BoughladderEvicting}
 use Rattle.clothes.specs.declared.BoughladderListing.{BoughladderListing}
+use Rattle.clothes.specs.declared.BoughladderJudgement.{BoughladderJudgement}
 use Rattle.model.specs.declared.Reading.{Reading}
 use Rattle.model.specs.declared.Reading.the-variants as reading
 use Rattle.model.specs.declared.Finding.{Finding}
@@ -38,3 +41,6 @@ evicting-dressed {hand = hand} e h = h ∙ ap (λ (t : Evicting). turned-clothes
 pub listing-dressed : {t t′ : Listing} {r : BoughladderListing} → t ≡ t′ → ((b : List ℕ) → r ≡ listing-clothes (said-listing t′ b))
     → (b : List ℕ) → r ≡ listing-clothes (said-listing t b)
 listing-dressed e h b = h b ∙ ap (λ (t : Listing). listing-clothes (said-listing t b)) (sym e)
+
+pub judgement-dressed : {t t′ : Judgement} {r : BoughladderJudgement} → t ≡ t′ → r ≡ judgement-clothes (said t′) → r ≡ judgement-clothes (said t)
+judgement-dressed e h = h ∙ ap (λ (t : Judgement). judgement-clothes (said t)) (sym e)

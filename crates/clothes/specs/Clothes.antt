@@ -4,11 +4,13 @@ use mathlib.Core.Option.{Option·getD}
 use lib.IntN.{ℤ, pos}
 use Rattle.model.specs.Choice.{choose}
 use Rattle.model.specs.Answers.{Answer, hand-back, is, paper, value}
+use Rattle.judgement.specs.Verdict.{Verdict, sound, broken}
 use Rattle.clothes.specs.declared.BoughladderReading.{BoughladderReading}
 use Rattle.clothes.specs.declared.BoughladderFinding.{BoughladderFinding}
 use Rattle.clothes.specs.declared.BoughladderSetting.{BoughladderSetting}
 use Rattle.clothes.specs.declared.BoughladderEvicting.{BoughladderEvicting}
 use Rattle.clothes.specs.declared.BoughladderListing.{BoughladderListing}
+use Rattle.clothes.specs.declared.BoughladderJudgement.{BoughladderJudgement}
 
 -- the refusal number, 0 for success; and value i: value 0 says which success it is, those after it what it tells; 0 where there is none
 abbrev pub number : Answer → ℕ
@@ -43,3 +45,8 @@ evicting-clothes hand a = turned-clothes (hand-back hand a) a
 -- the list
 abbrev pub listing-clothes : Answer → BoughladderListing
 listing-clothes a = record { refusal = number a; count = value a 1 }
+
+-- judge: 0 is a yes
+abbrev pub judgement-clothes : Verdict → BoughladderJudgement
+judgement-clothes sound = record { condition = 0; at = 0 }
+judgement-clothes (broken c i) = record { condition = c; at = i }

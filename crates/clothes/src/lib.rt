@@ -3,7 +3,9 @@ ghost use mathlib.Core.Path.{_≡_};
 ghost use mathlib.Core.List.{List};
 ghost use Prim.Native.Nat.{ℕ, _<_};
 ghost use Rattle.model.specs.Said.{said-reading, said-finding, said-setting, said-deleting, said-evicting, said-listing, said-starting};
-ghost use Rattle.clothes.specs.Clothes.{number, reading-clothes, finding-clothes, setting-clothes, turned-clothes, listing-clothes};
+ghost use Rattle.judgement.specs.Said.{said};
+ghost use Rattle.clothes.specs.Clothes.{number, reading-clothes, finding-clothes, setting-clothes, turned-clothes, listing-clothes, judgement-clothes};
+use judgement::Judgement;
 use model::Deleting;
 use model::Evicting;
 use model::Finding;
@@ -51,6 +53,13 @@ pub struct BoughladderEvicting {
 pub struct BoughladderListing {
     pub refusal: u32,
     pub count: usize,
+}
+
+// Judge, which refuses nothing. The condition is 0 for a yes, else the first that is broken, 1 to 8; then at is the lowest run, slot, counter or place that breaks it.
+#[repr(C)]
+pub struct BoughladderJudgement {
+    pub condition: u32,
+    pub at: usize,
 }
 
 // Requires a refusal number that fits 16 bits; document 01 has none larger.
@@ -179,5 +188,17 @@ pub fn dress_listing(told: Listing) -> BoughladderListing
             refusal: n,
             count: 0,
         },
+    }
+}
+
+pub fn dress_judgement(told: Judgement) -> BoughladderJudgement
+    ensures { λ r. ⌜ r ≡ judgement-clothes (said told) ⌝ }
+{
+    match told {
+        Judgement::Sound => BoughladderJudgement {
+            condition: 0,
+            at: 0,
+        },
+        Judgement::Broken { condition, at } => BoughladderJudgement { condition, at },
     }
 }

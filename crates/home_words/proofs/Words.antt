@@ -40,12 +40,18 @@ any-eight f a b c d e g h i = simp (any-cons, any-nil, or-no, or-in-turn)
 pub last-is : (m : ℕ) → (1 ≤ m) × (m ≤ 65536) → suc ((m - 1) % 65536) ≡ m
 last-is m h = omega arith
 
+-- a test of eight words, one by one
+pub by-tests : (f : ℕ → Bool) (a b c d e g h i : ℕ) {p₀ p₁ p₂ p₃ p₄ p₅ p₆ p₇ : Bool}
+    → p₀ ≡ f a → p₁ ≡ f b → p₂ ≡ f c → p₃ ≡ f d → p₄ ≡ f e → p₅ ≡ f g → p₆ ≡ f h → p₇ ≡ f i
+    → ((((p₀ || p₁) || p₂) || p₃) || (((p₄ || p₅) || p₆) || p₇)) ≡ any f (a ∷ b ∷ c ∷ d ∷ e ∷ g ∷ h ∷ i ∷ [])
+by-tests f a b c d e g h i q₀ q₁ q₂ q₃ q₄ q₅ q₆ q₇ = rw (q₀, q₁, q₂, q₃, q₄, q₅, q₆, q₇) (any-eight f a b c d e g h i)
+
 pub by-eight : (M a b c d e g h i : ℕ) {l : ℕ} → suc l ≡ M → {p₀ p₁ p₂ p₃ p₄ p₅ p₆ p₇ : Bool}
     → p₀ ≡ damaged (suc l) a → p₁ ≡ damaged (suc l) b → p₂ ≡ damaged (suc l) c → p₃ ≡ damaged (suc l) d
     → p₄ ≡ damaged (suc l) e → p₅ ≡ damaged (suc l) g → p₆ ≡ damaged (suc l) h → p₇ ≡ damaged (suc l) i
     → ((((p₀ || p₁) || p₂) || p₃) || (((p₄ || p₅) || p₆) || p₇)) ≡ any (damaged M) (a ∷ b ∷ c ∷ d ∷ e ∷ g ∷ h ∷ i ∷ [])
 by-eight M a b c d e g h i {l} k q₀ q₁ q₂ q₃ q₄ q₅ q₆ q₇ =
-    rw (q₀, q₁, q₂, q₃, q₄, q₅, q₆, q₇) (any-eight (damaged (suc l)) a b c d e g h i) ∙ ap (λ n. any (damaged n) (a ∷ b ∷ c ∷ d ∷ e ∷ g ∷ h ∷ i ∷ [])) k
+    by-tests (damaged (suc l)) a b c d e g h i q₀ q₁ q₂ q₃ q₄ q₅ q₆ q₇ ∙ ap (λ n. any (damaged n) (a ∷ b ∷ c ∷ d ∷ e ∷ g ∷ h ∷ i ∷ [])) k
 
 pub one-with : (t w : ℕ) → tag w ≡ t → w ≡ tag-sum t (w ∷ [])
 unfolding tag-sum

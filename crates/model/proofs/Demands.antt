@@ -32,7 +32,7 @@ module _ (W : Ways) where
     Along m l = WellFormed Z m × (m .items ≡ l)
 
     -- a run of calls keeps it so
-    along : (es : List Event) → AllTyped es → (m : Mem) (l : List ℕ) → Along m l → Along (left O m es) (beside O (Z .places) m l es)
+    pub along : (es : List Event) → AllTyped es → (m : Mem) (l : List ℕ) → Along m l → Along (left O m es) (beside O (Z .places) m l es)
     along [] t m l h = h
     along (make-fresh ∷ es) t m l h =
         subst (λ m′. Along (left O m′ es) (beside O (Z .places) m′ (replicate (4 * Z .places) 0) es))

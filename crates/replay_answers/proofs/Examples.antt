@@ -7,7 +7,8 @@ use Rattle.model.specs.Memory.{mem}
 use Rattle.model.specs.Answers.{refused, absent, fresh, old, ahead, stored, deleted, evicted, started, listed}
 use Rattle.replay_print.specs.Text.{bytes}
 use Rattle.replay_print.specs.Print.{decimal-of, digits, hex-digit, hex-of, hexes, numbered, record-lines, signed-of, told}
-use Rattle.replay_answers.specs.Text.{dump, not-understood, poke-told, reason, text}
+use Rattle.judgement.specs.Verdict.{sound, broken}
+use Rattle.replay_answers.specs.Text.{dump, judged, not-understood, poke-told, reason, text}
 
 pub lines :
     (text (refused 10) ≡ bytes "refused 10\n")
@@ -30,5 +31,7 @@ pub lines :
     × (dump (mem (65536 ∷ 0 ∷ []) (2 ∷ []) (7 ∷ 5 ∷ 2 ∷ 1 ∷ [])) ≡ bytes "slots 65536 0\ncounters 2\nitems 7 5 2 1\n")
     × (poke-told true ≡ bytes "poked\n")
     × (poke-told false ≡ bytes "no such word\n")
+    × (judged sound ≡ bytes "yes\n")
+    × (judged (broken 5 4095) ≡ bytes "no 5 4095\n")
 unfolding told numbered decimal-of signed-of digits record-lines hexes hex-of hex-digit reason
-lines = (refl, refl, refl, refl, refl, refl, refl, refl, refl, refl, refl, refl, refl, refl, refl, refl, refl, refl, refl)
+lines = (refl, refl, refl, refl, refl, refl, refl, refl, refl, refl, refl, refl, refl, refl, refl, refl, refl, refl, refl, refl, refl)

@@ -9,6 +9,7 @@ use Rattle.model.specs.Memory.{Mem}
 use Rattle.model.specs.Answers.{Answer, refused, absent, fresh, old, ahead, stored, deleted, evicted, started, listed, at-place}
 use Rattle.model.specs.declared.Listing.{Listing}
 use Rattle.model.specs.declared.Listing.the-variants as list
+use Rattle.judgement.specs.Verdict.{Verdict, sound, broken}
 use Rattle.replay_print.specs.Text.{bytes}
 use Rattle.replay_print.specs.Print.{decimal-of, line, numbered, record-lines, signed-line, told}
 
@@ -49,3 +50,8 @@ dump m = told (bytes "slots") (m .slots) ++ told (bytes "counters") (m .counters
 abbrev pub poke-told : Bool → List ℕ
 poke-told true = line (bytes "poked")
 poke-told false = line (bytes "no such word")
+
+-- a verdict: yes, or no with the condition and the number that breaks it
+abbrev pub judged : Verdict → List ℕ
+judged sound = line (bytes "yes")
+judged (broken c i) = told (bytes "no") (c ∷ i ∷ [])

@@ -5,8 +5,10 @@ ghost use Rattle.buffer.specs.Put.{Put};
 ghost use Rattle.model.specs.Memory.{mem};
 ghost use Rattle.model.specs.Answers.{listed, refused};
 ghost use Rattle.model.specs.Said.{said-reading, said-setting, said-deleting, said-evicting, said-listing, said-starting};
-ghost use Rattle.replay_answers.specs.Text.{text, Counted, reason, not-understood, dump, poke-told};
+ghost use Rattle.judgement.specs.Said.{said as said-judgement};
+ghost use Rattle.replay_answers.specs.Text.{text, Counted, reason, not-understood, dump, judged, poke-told};
 ghost use Rattle.replay_print.specs.Print.{line};
+use judgement::Judgement;
 use model::Deleting;
 use model::Evicting;
 use model::Listing;
@@ -158,4 +160,21 @@ pub fn put_poked(buffer: &mut [u8], at: usize, poked: bool) -> usize
         return replay_print::put_line(buffer, at, b"poked");
     }
     replay_print::put_line(buffer, at, b"no such word")
+}
+
+// Yes, or no with the condition and the number that breaks it.
+pub fn put_judgement(buffer: &mut [u8], at: usize, said: Judgement) -> usize
+    requires { ⌜ at + 384 ≤ length (now buffer) ⌝ }
+    ensures { λ r. ⌜ Put (judged (said-judgement said)) at (now (buffer .entry)) (now (buffer .exit)) r × (r ≤ at + 384) ⌝ }
+{
+    match said {
+        Judgement::Sound => replay_print::put_line(buffer, at, b"yes"),
+        Judgement::Broken {
+            condition,
+            at: number,
+        } => {
+            let numbers = [condition as u64, number as u64];
+            replay_print::put_told(buffer, at, b"no", &numbers)
+        }
+    }
 }

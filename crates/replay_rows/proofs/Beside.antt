@@ -42,11 +42,11 @@ pub room-to-show : (at : ℕ) (out : List ℕ) {rows : List ℕ} → rows ≡ la
 room-to-show at out l h = omega (arith, ap length l)
 
 -- whether a line was understood
-pub heard : (r : ℕ) → r < 19 → 0 ≡ unheard r
-heard r h = rw (lt-ltb r 19 h)
+pub heard : (r : ℕ) → r < 20 → 0 ≡ unheard r
+heard r h = rw (lt-ltb r 20 h)
 
-pub not-heard : (r : ℕ) → 19 ≤ r → 1 ≡ unheard r
-not-heard r h = rw (le-ltb r 19 h)
+pub not-heard : (r : ℕ) → 20 ≤ r → 1 ≡ unheard r
+not-heard r h = rw (le-ltb r 20 h)
 
 -- the status
 module _ (w : Bool) (m : ℕ) where

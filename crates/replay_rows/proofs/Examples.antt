@@ -16,6 +16,8 @@ use Rattle.model.specs.Calls.{hit, hits, slot-of, some-live, vacant-place}
 use Rattle.model.specs.Stores.{stores}
 use Rattle.model.specs.Row.{walk-to}
 use Rattle.plain.specs.Plain.{plain-read}
+use Rattle.judgement.specs.Conditions.{count, is-doubled, is-misshapen, is-stray, is-unsought, names, right-word, twin}
+use Rattle.judgement.specs.Verdict.{judgement}
 use Rattle.replay_words.specs.Words.{all-digits, before, filled, lines, number, mark-length, number-from, pieces, same, value, without-comment, without-mark, without-return, words}
 use Rattle.replay_print.specs.Text.{bytes}
 use Rattle.replay_print.specs.Print.{decimal-of, digits, hex-digit, hex-of, hexes, numbered, record-lines, signed-of, told}
@@ -26,7 +28,7 @@ use Rattle.replay_lines.specs.Reasons.{behind, furthest, instead, parting, why-
 use Rattle.replay_lines.specs.Line.{Said, first-row, fitting, said, said-by}
 use Rattle.replay_echo.specs.Echo.{behind as next-number, echo, filled-in, in-place}
 use Rattle.replay_rows.specs.World.{World, reply}
-use Rattle.replay_rows.specs.Meaning.{asks, audits, calls, cut-turns, cuts, hands, lists, meaning, pokes-counters, pokes-items, pokes-slots, says, starts, turns}
+use Rattle.replay_rows.specs.Meaning.{asks, audits, calls, cut-turns, cuts, hands, judges, lists, meaning, pokes-counters, pokes-items, pokes-slots, says, starts, turns}
 use Rattle.replay_rows.specs.Loaded.{loads-run, shown-load}
 use Rattle.replay_rows.specs.Replayed.{answers, language, missed, missed-in, replayed, reply-to, shown, status, unheard-line}
 
@@ -53,35 +55,36 @@ pub understood :
     × (said language (bytes "poke items 0 9") ≡ row 14 (0 ∷ 9 ∷ []))
     × (said language (bytes "dump") ≡ row 15 ([]))
     × (said language (bytes "plain 1 2 3") ≡ row 17 (1 ∷ 2 ∷ 3 ∷ []))
-    × (said language (bytes "# set 7 15 20 30") ≡ row 18 ([]))
+    × (said language (bytes "judge") ≡ row 18 ([]))
+    × (said language (bytes "# set 7 15 20 30") ≡ row 19 ([]))
 unfolding said said-by first-row fitting taken bound lines words pieces filled before same number number-from value all-digits without-comment without-return
-understood = (refl, refl, refl, refl, refl, refl, refl, refl, refl, refl, refl, refl, refl, refl, refl, refl, refl, refl, refl, refl)
+understood = (refl, refl, refl, refl, refl, refl, refl, refl, refl, refl, refl, refl, refl, refl, refl, refl, refl, refl, refl, refl, refl)
 
--- no row fits: there are 19, and the number is the reason
+-- no row fits: there are 20, and the number is the reason
 pub not-understood :
-    (said language (bytes "hand 18446744073709551616") ≡ row 19 (3 ∷ []))
-    × (said language (bytes "hand +1") ≡ row 19 (0 ∷ []))
-    × (said language (bytes "hand 1a") ≡ row 19 (0 ∷ []))
-    × (said language (bytes "hand") ≡ row 19 (1 ∷ []))
-    × (said language (bytes "hand 1 1") ≡ row 19 (2 ∷ []))
-    × (said language (bytes "set 1 4294967296 2 3") ≡ row 19 (3 ∷ []))
-    × (said language (bytes "set 1 2 3 4 standin") ≡ row 19 (0 ∷ []))
-    × (said language (bytes "set 1 2 3 4 standing 5") ≡ row 19 (2 ∷ []))
-    × (said language (bytes "set 1 2 3 standing") ≡ row 19 (0 ∷ []))
-    × (said language (bytes "set 1 2 3") ≡ row 19 (1 ∷ []))
-    × (said language (bytes "fresh 1 2") ≡ row 19 (1 ∷ []))
-    × (said language (bytes "evict 1") ≡ row 19 (2 ∷ []))
-    × (said language (bytes "Dump") ≡ row 19 (0 ∷ []))
-    × (said language (bytes "dumps") ≡ row 19 (0 ∷ []))
-    × (said language (bytes "dump\r\r") ≡ row 19 (0 ∷ []))
-    × (said language (bytes "cut 5 read 1 2 3") ≡ row 19 (0 ∷ []))
-    × (said language (bytes "cut evict") ≡ row 19 (0 ∷ []))
-    × (said language (bytes "list 81921 5") ≡ row 19 (3 ∷ []))
-    × (said language (bytes "poke") ≡ row 19 (1 ∷ []))
-    × (said language (bytes "12 13") ≡ row 19 (0 ∷ []))
-    × (said language (bytes "poke 0 9") ≡ row 19 (0 ∷ []))
-    × (said language (bytes "plain 1 2") ≡ row 19 (1 ∷ []))
-    × (said language (bytes "cut 5 plain 1 2 3") ≡ row 19 (0 ∷ []))
+    (said language (bytes "hand 18446744073709551616") ≡ row 20 (3 ∷ []))
+    × (said language (bytes "hand +1") ≡ row 20 (0 ∷ []))
+    × (said language (bytes "hand 1a") ≡ row 20 (0 ∷ []))
+    × (said language (bytes "hand") ≡ row 20 (1 ∷ []))
+    × (said language (bytes "hand 1 1") ≡ row 20 (2 ∷ []))
+    × (said language (bytes "set 1 4294967296 2 3") ≡ row 20 (3 ∷ []))
+    × (said language (bytes "set 1 2 3 4 standin") ≡ row 20 (0 ∷ []))
+    × (said language (bytes "set 1 2 3 4 standing 5") ≡ row 20 (2 ∷ []))
+    × (said language (bytes "set 1 2 3 standing") ≡ row 20 (0 ∷ []))
+    × (said language (bytes "set 1 2 3") ≡ row 20 (1 ∷ []))
+    × (said language (bytes "fresh 1 2") ≡ row 20 (1 ∷ []))
+    × (said language (bytes "evict 1") ≡ row 20 (2 ∷ []))
+    × (said language (bytes "Dump") ≡ row 20 (0 ∷ []))
+    × (said language (bytes "dumps") ≡ row 20 (0 ∷ []))
+    × (said language (bytes "dump\r\r") ≡ row 20 (0 ∷ []))
+    × (said language (bytes "cut 5 read 1 2 3") ≡ row 20 (0 ∷ []))
+    × (said language (bytes "cut evict") ≡ row 20 (0 ∷ []))
+    × (said language (bytes "list 81921 5") ≡ row 20 (3 ∷ []))
+    × (said language (bytes "poke") ≡ row 20 (1 ∷ []))
+    × (said language (bytes "12 13") ≡ row 20 (0 ∷ []))
+    × (said language (bytes "poke 0 9") ≡ row 20 (0 ∷ []))
+    × (said language (bytes "plain 1 2") ≡ row 20 (1 ∷ []))
+    × (said language (bytes "cut 5 plain 1 2 3") ≡ row 20 (0 ∷ []))
 unfolding said said-by first-row fitting taken bound lines words pieces filled before same number number-from value all-digits without-comment without-return why-not furthest parting takes behind instead
 not-understood = (refl, refl, refl, refl, refl, refl, refl, refl, refl, refl, refl, refl, refl, refl, refl, refl, refl, refl, refl, refl, refl, refl, refl)
 
@@ -93,6 +96,15 @@ pub day-answered : answers false day
     ≡ bytes "fresh\nstored 1 0\nfresh 5 720\nold -7\ndeleted\nrefused 8\nfresh 5 719\nfresh\nstored 1 0\nfresh 4294967295 30\nevicted 7 3 1\nhand\nrefused 8\nlisted 1\n0700000000000000ffffffffffffffffffffffff\nline 16: not understood: number too large\npoked\nno such word\nline 19: not understood: number too large\nslots 0 0 0 0 0 0 0 0\ncounters 3\nitems 7 4294967295 18446744073709551615 0 9 0 0 0\n"
 unfolding replayed reply-to loading load-of run-named weighed loads-run shown meaning starts asks calls cuts turns cut-turns hands lists pokes-slots pokes-counters pokes-items audits plain-read walk-to said said-by first-row fitting taken bound why-not furthest parting takes behind instead lines words pieces filled before same number number-from value all-digits without-comment without-return without-mark mark-length told numbered reason decimal-of signed-of digits record-lines hexes hex-of hex-digit hash fnv fnv-step low-bytes tag-from odd-up spread other-bucket tag place damaged range first good-lengths good-slots good-counters good-items hits hit vacant-place some-live visits next-level hops first-free free-slot lowest climb is-fresh age left-of verdict next-hand seek-victim passed-recent slot-of list-record records live-count listing stores
 day-answered = refl
+
+-- a table is judged before the first fresh, fresh, with a cow, in the middle of a set, and with a twin
+abbrev dump-judged : List ℕ
+dump-judged = bytes "judge\nfresh 8 1 8\njudge\nset 1 5 2 3\njudge\ncut 1 set 1 6 3 3\njudge\npoke counters 0 2\npoke slots 1 4063233\npoke items 4 1\njudge\njudge 1"
+
+pub dump-is-judged : answers false dump-judged
+    ≡ bytes "no 1 0\nfresh\nyes\nstored 1 0\nyes\nstored 0 0\nno 3 0\npoked\npoked\npoked\nno 6 0\nline 12: not understood: too many numbers\n"
+unfolding judges judgement count names twin right-word is-stray is-unsought is-doubled is-misshapen replayed reply-to loading load-of run-named weighed loads-run shown meaning starts asks calls cuts turns cut-turns hands lists pokes-slots pokes-counters pokes-items audits plain-read walk-to said said-by first-row fitting taken bound why-not furthest parting takes behind instead lines words pieces filled before same number number-from value all-digits without-comment without-return without-mark mark-length told numbered reason decimal-of signed-of digits record-lines hexes hex-of hex-digit hash fnv fnv-step low-bytes tag-from odd-up spread other-bucket tag place damaged range first good-lengths good-slots good-counters good-items hits hit vacant-place some-live visits next-level hops first-free free-slot lowest climb is-fresh age left-of verdict next-hand seek-victim passed-recent slot-of list-record records live-count listing stores
+dump-is-judged = refl
 
 -- a text behind a byte order mark, with the calls shown, and how many of its lines are not understood
 abbrev hour : List ℕ

@@ -14,7 +14,8 @@ use Rattle.model.specs.Lent.{lent-after, lent-call, lent-cut}
 use Rattle.plain.specs.Plain.{plain-read}
 use Rattle.replay_print.specs.Text.{bytes}
 use Rattle.replay_print.specs.Print.{line}
-use Rattle.replay_answers.specs.Text.{text, dump, not-understood, poke-told}
+use Rattle.judgement.specs.Verdict.{judgement}
+use Rattle.replay_answers.specs.Text.{text, dump, judged, not-understood, poke-told}
 use Rattle.replay_rows.specs.Poke.{can-poke, poked}
 use Rattle.replay_rows.specs.World.{World, Replied, Reply, world, reply}
 
@@ -80,6 +81,10 @@ pokes-items i x w =
 unfoldable pub audits : ℕ → ℕ → ℕ → World → Reply
 audits x limit now w = says (text (plain-read (w .memory .items) x limit now)) w
 
+-- the three runs are judged
+unfoldable pub judges : World → Reply
+judges w = says (judged (judgement four (w .memory))) w
+
 -- a row: what a line says, and what it means, by the numbers in it
 pub record Row : Type 0 where
   pub says : String
@@ -114,6 +119,7 @@ rows =
     ∷ row "dump" (λ x w. says (dump (w .memory)) w)
     ∷ row "fresh N N N" (λ x. starts (x 0) (x 1) (x 2))
     ∷ row "plain N N N" (λ x. audits (x 0) (x 1) (x 2))
+    ∷ row "judge" (λ x. judges)
     ∷ row "" (λ x w. says [] w)
     ∷ []
 

@@ -55,7 +55,7 @@ pub fn show_load(echo: bool, run: usize, number: u64, out: &mut [u8], at: usize)
 pub fn unheard(row: usize) -> u64
     ensures { λ r. ⌜ (r ≡ is-unheard row) × (r ≤ 1) ⌝ }
 {
-    if row < 19 {
+    if row < 20 {
         return 0;
     }
     1

@@ -13,14 +13,15 @@ use Rattle.model.specs.Answers.{Answer}
 use Rattle.model.specs.Calling.{write-list}
 use Rattle.model.specs.Lent.{lent-call}
 use Rattle.plain.specs.Plain.{plain-read}
+use Rattle.judgement.specs.Verdict.{Verdict, judgement}
 use Rattle.buffer.specs.Put.{Put}
 use Rattle.replay_print.specs.Text.{bytes}
 use Rattle.replay_print.specs.Print.{line}
-use Rattle.replay_answers.specs.Text.{text, dump, not-understood, poke-told}
+use Rattle.replay_answers.specs.Text.{text, dump, judged, not-understood, poke-told}
 use Rattle.replay_rows.specs.Poke.{Poked}
 use Rattle.replay_rows.specs.declared.Turn.{Turn}
 use Rattle.replay_rows.specs.World.{Ample, World, Replied, world, longest}
-use Rattle.replay_rows.specs.Meaning.{Arm, Row, rows, asks, audits, hands, lists, meant, meaning, pokes-slots, pokes-counters, pokes-items, says}
+use Rattle.replay_rows.specs.Meaning.{Arm, Row, rows, asks, audits, hands, judges, lists, meant, meaning, pokes-slots, pokes-counters, pokes-items, says}
 
 -- the rows from 10 on
 module _ {m : Mem} {at : ℕ} {before after : List ℕ} {row : ℕ} (h n : ℕ) (xs : List ℕ) where
@@ -81,9 +82,16 @@ module _ {m : Mem} {at : ℕ} {before after : List ℕ} {row : ℕ} (h n : ℕ) 
     unfolding meaning audits
     as-plain e p l = rw e (record { put = p; near = omega arith; left = refl; hand = refl })
 
--- the plain engine's line is that of what it said
+    pub as-judge : row ≡ 18 → Put (judged (judgement four m)) at before after next → next ≤ at + 384 → Arm row n xs m h m at before after next
+    unfolding meaning judges
+    as-judge e p l = rw e (record { put = p; near = omega arith; left = refl; hand = refl })
+
+-- the plain engine's line is that of what it said, and the judge's
 pub plain-line : {s a : Answer} {at r : ℕ} {before after : List ℕ} → s ≡ a → Put (text s) at before after r → Put (text a) at before after r
 plain-line e p = rw (← e) p
+
+pub verdict-line : {u v : Verdict} {at r : ℕ} {before after : List ℕ} → u ≡ v → Put (judged u) at before after r → Put (judged v) at before after r
+verdict-line e p = rw (← e) p
 
 -- a line that follows no row
 past : (k r : ℕ) → k ≤ r → r ≢ k → k + 1 ≤ r
@@ -95,15 +103,15 @@ beyond (t ∷ ts) zero n xs w h = absurd (omega arith)
 beyond (t ∷ ts) (suc r) n xs w h = beyond ts r n xs w (omega arith)
 
 module _ {m : Mem} {at h next : ℕ} {before after : List ℕ} {row : ℕ} (n : ℕ) (xs : List ℕ) where
-  pub as-not-understood : 10 ≤ row → row ≢ 16 → row ≢ 10 → row ≢ 11 → row ≢ 12 → row ≢ 13 → row ≢ 14 → row ≢ 15 → row ≢ 17 → row ≢ 18
+  pub as-not-understood : 10 ≤ row → row ≢ 16 → row ≢ 10 → row ≢ 11 → row ≢ 12 → row ≢ 13 → row ≢ 14 → row ≢ 15 → row ≢ 17 → row ≢ 18 → row ≢ 19
       → Put (not-understood n (getD xs 0 0)) at before after next → next ≤ at + 384 → Arm row n xs m h m at before after next
   unfolding meaning
-  as-not-understood lo n16 n10 n11 n12 n13 n14 n15 n17 n18 p l =
-      let k : 19 ≤ row = past 18 row (past 17 row (past 16 row (past 15 row (past 14 row (past 13 row (past 12 row (past 11 row (past 10 row lo n10) n11) n12) n13) n14) n15) n16) n17) n18 in
+  as-not-understood lo n16 n10 n11 n12 n13 n14 n15 n17 n18 n19 p l =
+      let k : 20 ≤ row = past 19 row (past 18 row (past 17 row (past 16 row (past 15 row (past 14 row (past 13 row (past 12 row (past 11 row (past 10 row lo n10) n11) n12) n13) n14) n15) n16) n17) n18) n19 in
       rw (beyond rows row n xs (world m h) k) (record { put = p; near = omega arith; left = refl; hand = refl })
 
 -- a blank line says nothing
-pub as-blank : {m : Mem} {at h : ℕ} {before : List ℕ} {row : ℕ} (n : ℕ) (xs : List ℕ) → row ≡ 18 → Arm row n xs m h m at before before at
+pub as-blank : {m : Mem} {at h : ℕ} {before : List ℕ} {row : ℕ} (n : ℕ) (xs : List ℕ) → row ≡ 19 → Arm row n xs m h m at before before at
 unfolding meaning
 as-blank n xs e = rw e (record { put = record { bytes-put = refl; next = omega arith }; near = omega arith; left = refl; hand = refl })
 

@@ -1,4 +1,4 @@
-// The lines of a replay beside the table's calls: the hand, the list, a poke, a dump, the plain engine, and what is not understood.
+// The lines of a replay beside the table's calls: the hand, the list, a poke, a dump, the plain engine, the judge, and what is not understood.
 ghost use mathlib.Core.Path.{_≡_};
 ghost use mathlib.Core.Logic.{_≢_};
 ghost use Prim.Native.Nat.{_+_, _*_, _≤_, min};
@@ -8,8 +8,9 @@ ghost use Rattle.model.specs.Shape.{four};
 ghost use Rattle.model.specs.Calling.{write-list};
 ghost use Rattle.model.specs.Lent.{lent-call};
 ghost use Rattle.plain.specs.Plain.{plain-read};
+ghost use Rattle.judgement.specs.Verdict.{judgement};
 ghost use Rattle.buffer.specs.Put.{Put};
-ghost use Rattle.replay_answers.specs.Text.{text};
+ghost use Rattle.replay_answers.specs.Text.{judged, text};
 ghost use Rattle.replay_rows.specs.World.{Ample, Replied, longest, world};
 ghost use Rattle.replay_rows.specs.Poke.{Poked};
 ghost use Rattle.replay_rows.specs.Meaning.{lists, meaning};
@@ -106,7 +107,17 @@ fn put_plain(
     replay_answers::put_reading(out, at, said)
 }
 
-// The rows from 10 on but for fresh: the hand, a list, a poke, a dump, the plain engine, a blank line, and one that follows no row.
+// What the judge says of the three runs, as its line.
+fn put_verdict(slots: &[u32], counters: &[u32], items: &[u64], out: &mut [u8], at: usize) -> usize
+    requires { ⌜ at + 384 ≤ length (now out) ⌝ }
+    ensures { λ r. ⌜ Put (judged (judgement four (mem (now (slots .entry)) (now (counters .entry)) (now (items .entry))))) at (now (out .entry)) (now (out .exit)) r
+        × (r ≤ at + 384) ⌝ }
+{
+    let said = judging::judge(slots, counters, items);
+    replay_answers::put_judgement(out, at, said)
+}
+
+// The rows from 10 on but for fresh: the hand, a list, a poke, a dump, the plain engine, the judge, a blank line, and one that follows no row.
 pub fn beside_the_calls(
     row: usize,
     number: u64,
@@ -162,7 +173,11 @@ pub fn beside_the_calls(
             next: put_plain(items, a, b, c, out, at),
             hand,
         },
-        18 => Turn { next: at, hand },
+        18 => Turn {
+            next: put_verdict(slots, counters, items, out, at),
+            hand,
+        },
+        19 => Turn { next: at, hand },
         _ => Turn {
             next: replay_answers::put_not_understood(out, at, number, a),
             hand,

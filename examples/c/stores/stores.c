@@ -30,6 +30,7 @@ static void make(const char *op, const uint64_t *n) {
     BoughladderSetting t = {0, 0, 0};
     BoughladderEvicting e = {0, 0, 0, 0};
     BoughladderListing l = {0, 0};
+    BoughladderJudgement j = {0, 0};
     uint32_t d = 0;
     memset(buffer, 0xa5, sizeof buffer);
     if (!strcmp(op, "fresh")) MARKED(d = boughladder_fresh(LENT));
@@ -45,11 +46,12 @@ static void make(const char *op, const uint64_t *n) {
     else if (!strcmp(op, "evict")) MARKED(e = boughladder_evict(LENT, n[0]));
     else if (!strcmp(op, "evict_cut")) MARKED(e = boughladder_evict_cut(LENT, n[0], n[1]));
     else if (!strcmp(op, "list")) MARKED(l = boughladder_list(LENT, buffer, n[0]));
+    else if (!strcmp(op, "judge")) MARKED(j = boughladder_judge(LENT));
     else exit(2);
     /* Only one of the replies is not 0. */
     a[0] = (uint64_t)d + r.refusal + f.refusal + t.refusal + e.refusal + l.refusal;
-    a[1] = r.kind + f.kind + t.visits + e.victim + l.count;
-    a[2] = r.permission + f.place + t.moves + e.looked;
+    a[1] = r.kind + f.kind + t.visits + e.victim + l.count + j.condition;
+    a[2] = r.permission + f.place + t.moves + e.looked + j.at;
     a[3] = (uint64_t)r.left + e.hand;
     put(a, 8, 4), put(slots, 4, 64), put(counters, 4, 8), put(items, 8, 256), put(buffer, 1, 64);
 }

@@ -33,14 +33,17 @@ class Table:
         self.buckets, self.places = lengths[0] // 4, lengths[2] // 4
         self.stores = []
 
+    def good_lengths(self):
+        """Of each run, whether its length is good."""
+        s, c, i = (self.length[run] for run in RUNS)
+        return [s in [4 * 2**e for e in range(1, 12)], 1 <= c <= 1024, i % 4 == 0 and 1 <= self.places <= 4096]
+
     def check_lengths(self):
-        s, c = self.length['slots'], self.length['counters']
-        if s not in [4 * 2**e for e in range(1, 12)] or not 1 <= c <= 1024:
+        if not all(self.good_lengths()):
             raise Refusal(1)
-        self.check_items()
 
     def check_items(self):
-        if self.length['items'] % 4 or not 1 <= self.places <= 4096:
+        if not self.good_lengths()[2]:
             raise Refusal(1)
 
     def put(self, run, index, value):
@@ -255,6 +258,33 @@ def list_(t, bytes_lent):
     return 0, len(live), 0, 0
 
 
+def judge(t):
+    """The first condition that is broken, and the lowest number that breaks it. It refuses nothing."""
+    if not all(t.good_lengths()):
+        return 0, 1, t.good_lengths().index(False), 0
+    words, counters = (t.word[run][:t.length[run]] for run in RUNS[:2])
+    entries = [(slot, word // 65536, word % 65536) for slot, word in enumerate(words) if word]
+    live = [place for place in range(t.places) if t.item(place, 0)]
+
+    def belongs(slot, tag, place):
+        own, first = tag_and_first(t, t.item(place, 0))
+        return place in live and tag == own and slot // 4 in (first, other(t, first, tag))
+
+    # Each is worked out only where those before it hold.
+    conditions = [(2, (slot for slot, _, _ in entries if t.damaged(slot))),
+                  (3, (n for n, counter in enumerate(counters) if counter % 2)),
+                  (4, (entry[0] for entry in entries if not belongs(*entry))),
+                  (5, (place for place in live if [entry[2] for entry in entries].count(place) != 1)),
+                  (6, (place for place in live if [t.item(p, 0) for p in live].count(t.item(place, 0)) != 1)),
+                  (7, (place for place in range(t.places) if t.item(place, 1) >= 2**32)),
+                  (8, (place for place in range(t.places)
+                       if place not in live and any(t.item(place, n) for n in (1, 2, 3))))]
+    for condition, breaking in conditions:
+        for number in breaking:
+            return 0, condition, number, 0
+    return 0, 0, 0, 0
+
+
 def fresh(t):
     for run in RUNS:
         for n in range(t.length[run]):
@@ -263,7 +293,7 @@ def fresh(t):
 
 
 CALLS = {'fresh': fresh, 'read': read, 'plain_read': plain_read, 'serve': serve, 'find': find, 'set': set_,
-         'delete': delete, 'evict': evict, 'list': list_}
+         'delete': delete, 'evict': evict, 'list': list_, 'judge': judge}
 
 
 def call(t, op, numbers):
@@ -273,7 +303,8 @@ def call(t, op, numbers):
     t.stores, t.word['buffer'] = [], [0xa5] * ROOM['buffer']
     whole = copy.deepcopy(t)
     try:
-        (whole.check_items if name == 'plain_read' else whole.check_lengths)()
+        if name != 'judge':
+            (whole.check_items if name == 'plain_read' else whole.check_lengths)()
         answer = CALLS[name](whole, *arguments)
     except Refusal as refusal:
         whole.stores = []
@@ -376,7 +407,7 @@ def faults(seen, table, op, answer):
 
 def compare(scenarios, memory, trace):
     seen, table, wrong, report = Watched(memory, trace), None, 0, {}
-    refusals, moves, made = set(), set(), set()
+    refusals, moves, made, conditions = set(), set(), set(), set()
     for name, op, numbers, cuts in steps(scenarios):
         if op == 'lend':
             table = Table(numbers)
@@ -398,17 +429,21 @@ def compare(scenarios, memory, trace):
             made.add((op, answer[0] == 0))
             if op in ('set', 'set_cut') and answer[1] > 0:
                 moves.add((op, answer[2]))
+            if op == 'judge':
+                conditions.add(answer[1])
     for name, line in report.items():
         print('%s: %d calls, %d stores, %d joined' % (name, *line))
     if seen.calls or seen.memory.read():
         wrong += 1
         print('the program made more calls than the scenarios have')
-    # The scenarios reach every number of moves and every refusal but 10; every writing call is made and refused.
+    # The scenarios reach every number of moves, every refusal but 10 and every condition; each writing call is made and
+    # refused.
     writing = ['fresh', 'serve', 'set', 'set_cut', 'delete', 'delete_cut', 'evict', 'evict_cut']
     missed = {(op, success) for op in writing for success in (True, False)} - made
-    if len(moves) != 2 * 5 or refusals != {*range(10), 11} or missed:
+    if len(moves) != 2 * 5 or refusals != {*range(10), 11} or conditions != {*range(9)} or missed:
         wrong += 1
-        print('the scenarios reach only moves %s, refusals %s, and not %s' % (sorted(moves), refusals, missed))
+        print('the scenarios reach only moves %s, refusals %s, conditions %s, and not %s' %
+              (sorted(moves), refusals, conditions, missed))
     calls, stores, joined = (sum(line[n] for line in report.values()) for n in range(3))
     if wrong:
         print('stores: %d of %d calls are not as in the document' % (wrong, calls))

@@ -1,0 +1,10 @@
+-- `inspecting::uneven` meets its contract. Assumes nothing.
+use borrow.Author.Needs.{needs}
+use Rattle.inspecting.proofs.uneven.Statement.{statement}
+use Rattle.inspecting.proofs.uneven.Tie as tie
+
+returns : tie.Need-returns
+returns c = search needs
+
+pub uneven-spec : {M : Type 1} → statement M
+uneven-spec = tie.close (tie.spec returns)
