@@ -54,9 +54,28 @@ module _ {calls : List ℕ} {from : ℕ} {p : Piece} (piece : PieceAt calls from
   unfolding missed-in
   missed-first = rw (piece .first-line)
 
-  pub goes-forward : {y : Reply} {u : ℕ} {slots counters items out out′ : List ℕ} {st r : State} → Answers y u st r slots counters items out out′
-      → st .from ≡ p .next → from < r .from
-  goes-forward a q = omega (arith, piece .goes-on, a .same-from)
+-- what is in use is so wherever the text is read
+pub held-there : {slots counters items : List ℕ} {st : State} {from : ℕ} → Held slots counters items st
+    → Held slots counters items
+    (record {
+      slots = st .slots;
+      counters = st .counters;
+      items = st .items;
+      hand = st .hand;
+      number = st .number;
+      missed = st .missed;
+      from = from;
+      at = st .at;
+    })
+held-there k =
+    record {
+      all-slots = k .all-slots;
+      all-counters = k .all-counters;
+      all-items = k .all-items;
+      slots-in = k .slots-in;
+      counters-in = k .counters-in;
+      items-in = k .items-in;
+    }
 
 module _ {e : Bool} {calls slots counters items out slots′ counters′ items′ out′ : List ℕ} {st r : State} where
   pub goes-on : {p : Piece} → PieceAt calls (st .from) p → st .at + longest-line ≤ length out → st .number ≤ st .from → st .missed ≤ st .number
