@@ -7,7 +7,6 @@ use mathlib.Core.Bool.{Bool}
 use mathlib.Core.List.{List, _++_, append-assoc}
 use lib.ListN.{length, take, drop, length-append}
 use lib.Seq.{take-at, length-take-le}
-use lib.Dec.{ltb}
 use Rattle.model.specs.Choice.{choose}
 use Rattle.model.proofs.ListLaws.{bool}
 use Rattle.buffer.specs.Put.{Put}
@@ -15,11 +14,9 @@ use Rattle.buffer.proofs.Putting.{put-is, put-length}
 use Rattle.replay_words.specs.Words.{lines}
 use Rattle.replay_words.specs.Cursor.{PieceAt, part}
 use Rattle.replay_words.specs.declared.Piece.{Piece}
-use Rattle.replay_lines.specs.Line.{said}
 use Rattle.replay_loads.specs.Load.{Load, faulty, loading, loads, other}
 use Rattle.replay_rows.specs.World.{Reply, World, longest-line}
-use Rattle.replay_rows.specs.Meaning.{rows}
-use Rattle.replay_rows.specs.Replayed.{language, missed-in, replayed, reply-to, unheard-by, unheard-line}
+use Rattle.replay_rows.specs.Replayed.{heard, missed-in, replayed, reply-to, unheard-by, unheard-line}
 use Rattle.replay_steps.specs.Standing.{in-use, Held}
 use Rattle.replay_steps.specs.declared.State.{State}
 use Rattle.replay_reply.specs.Answered.{Answers}
@@ -33,14 +30,14 @@ put-front {bs} {out} {out′} {at} {r} p h =
     ap (take r) (put-is p h) ∙ take-at (take at out ++ bs) (drop (at + length bs) out) r long
 
 -- a line is missed once, or it is understood
-missed-by : (x : Load) (l : List ℕ) → unheard-by x l ≤ 1
-missed-by other l = bool (λ b. choose b 0 1 ≤ 1) (ltb (said language l .row) (length rows)) (λ _. omega arith) (λ _. omega arith)
-missed-by (faulty y) l = omega arith
-missed-by (loads r ws) l = omega arith
+missed-by : (x : Load) → unheard-by x ≤ 1
+missed-by other = omega arith
+missed-by (faulty y) = omega arith
+missed-by (loads r ws) = omega arith
 
 missed-once : (l : List ℕ) → unheard-line l ≤ 1
 unfolding unheard-line
-missed-once l = missed-by (loading l) l
+missed-once l = bool (λ b. choose b 0 (unheard-by (loading l)) ≤ 1) (heard l) (λ _. omega arith) (λ _. missed-by (loading l))
 
 -- the line at a position is answered first, and then those behind it
 module _ {calls : List ℕ} {from : ℕ} {p : Piece} (piece : PieceAt calls from p) where
