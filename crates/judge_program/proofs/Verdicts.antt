@@ -123,7 +123,11 @@ pub text-told : {slots counters items out out′ : List ℕ} {d : Dumped} {end :
 text-told text st t = t .told-so (dump-of text) st
 
 -- and goes out whole
-pub line-is : (bs out : List ℕ) {out′ : List ℕ} {end : ℕ} → Put bs 0 out out′ end → end ≤ length out → take end out′ ≡ bs
-line-is bs out {out′} {end} p h =
-    let long : end ≡ length bs = omega (arith, p .next) in
-    ap (take end) (p .bytes-put) ∙ poured-front bs out end long h
+module _ (out : List ℕ) {end : ℕ} (near : end ≤ 384) (room : 384 ≤ length out) where
+  pub line-front : (out′ : List ℕ) → length out′ ≡ length out → end ≡ length (take end out′)
+  line-front out′ l = sym (length-take-le end out′ (omega arith))
+
+  pub line-is : (bs : List ℕ) {out′ : List ℕ} → Put bs 0 out out′ end → take end out′ ≡ bs
+  line-is bs p =
+      let long : end ≡ length bs = omega (arith, p .next) in
+      ap (take end) (p .bytes-put) ∙ poured-front bs out end long (omega arith)

@@ -190,6 +190,20 @@ fn hand_over(line: &[u8], text: &[u8])
     io::write_all(STDOUT_FILENO, line);
 }
 
+// Judges a text, with the memory that is lent for its runs.
+fn tell_in(
+    text: &[u8],
+    slots: &mut [u32],
+    counters: &mut [u32],
+    items: &mut [u64],
+    out: &mut [u8],
+)
+    requires { ⌜ (length (now slots) ≡ 8192) × (length (now counters) ≡ 1024) × (length (now items) ≡ 16384) × (384 ≤ length (now out)) ⌝ }
+{
+    let end = judge_text(text, slots, counters, items, out);
+    hand_over(&out[..end], text);
+}
+
 // As many item words as a table may have. It says nothing of its elements, so that no proof counts them.
 fn item_words() -> [u64; 16384]
     ensures { λ r. ⌜ 16384 ≡ length r ⌝ }
@@ -197,14 +211,12 @@ fn item_words() -> [u64; 16384]
     [0; 16384]
 }
 
-// Judges a text.
 fn tell(text: &[u8]) {
     let mut slots = [0u32; 8192];
     let mut counters = [0u32; 1024];
     let mut items = item_words();
     let mut out = [0u8; 384];
-    let end = judge_text(text, &mut slots, &mut counters, &mut items, &mut out);
-    hand_over(&out[..end], text);
+    tell_in(text, &mut slots, &mut counters, &mut items, &mut out);
 }
 
 // Judges the standard input, with the memory that it is lent for it; nothing is judged of more, or of what can't be read to its end.
