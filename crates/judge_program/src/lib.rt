@@ -109,12 +109,7 @@ fn take_line(
 }
 
 // The text of a dump, line after line.
-pub fn read_dump(
-    text: &[u8],
-    slots: &mut [u32],
-    counters: &mut [u32],
-    items: &mut [u64],
-) -> Dumped
+pub fn read_dump(text: &[u8], slots: &mut [u32], counters: &mut [u32], items: &mut [u64]) -> Dumped
     ensures { λ r. ⌜ Stands (dump-of (now (text .entry))) (now (slots .exit)) (now (counters .exit)) (now (items .exit)) r ⌝ }
 {
     let mut known = Dumped::Whole(0, 0, 0);
@@ -149,13 +144,7 @@ fn verdict_of(
 }
 
 // The line that is told of a dump.
-fn put_told(
-    dumped: Dumped,
-    slots: &[u32],
-    counters: &[u32],
-    items: &[u64],
-    out: &mut [u8],
-) -> usize
+fn put_told(dumped: Dumped, slots: &[u32], counters: &[u32], items: &[u64], out: &mut [u8]) -> usize
     requires { ⌜ (length (now slots) ≡ 8192) × (length (now counters) ≡ 1024) × (length (now items) ≡ 16384) × (384 ≤ length (now out)) ⌝ }
     ensures { λ r. ⌜ Told (now (slots .entry)) (now (counters .entry)) (now (items .entry)) dumped (now (out .entry)) (now (out .exit)) r ⌝ }
 {
@@ -191,13 +180,7 @@ fn hand_over(line: &[u8], text: &[u8])
 }
 
 // Judges a text, with the memory that is lent for its runs.
-fn tell_in(
-    text: &[u8],
-    slots: &mut [u32],
-    counters: &mut [u32],
-    items: &mut [u64],
-    out: &mut [u8],
-)
+fn tell_in(text: &[u8], slots: &mut [u32], counters: &mut [u32], items: &mut [u64], out: &mut [u8])
     requires { ⌜ (length (now slots) ≡ 8192) × (length (now counters) ≡ 1024) × (length (now items) ≡ 16384) × (384 ≤ length (now out)) ⌝ }
 {
     let end = judge_text(text, slots, counters, items, out);
@@ -229,11 +212,17 @@ pub fn run(text: &mut [u8]) {
         return;
     }
     if got < 0 {
-        io::write_all(STDERR_FILENO, b"judge_dump: a read failed, nothing was judged\n");
+        io::write_all(
+            STDERR_FILENO,
+            b"judge_dump: a read failed, nothing was judged\n",
+        );
         return;
     }
     if n < text.len() {
-        io::write_all(STDERR_FILENO, b"judge_dump: a read failed, nothing was judged\n");
+        io::write_all(
+            STDERR_FILENO,
+            b"judge_dump: a read failed, nothing was judged\n",
+        );
         return;
     }
     io::write_all(STDOUT_FILENO, b"too long\n");

@@ -8,7 +8,7 @@ use Rattle.judge_program.proofs.read_dump.Statement.{statement}
 use Rattle.judge_program.proofs.read_dump.Tie as tie
 
 abbrev Inv-loop : tie.InvT-loop
-Inv-loop text slots₀ counters₀ items₀ known₀ number₀ from₀ slots counters items known number from = 
+Inv-loop text slots₀ counters₀ items₀ known₀ number₀ from₀ slots counters items known number from =
     Reading text slots counters items from number known × (length slots ≡ length slots₀) × (length counters ≡ length counters₀) × (length items ≡ length items₀)
 
 abbrev μ-loop : tie.MeasureT-loop
