@@ -1,5 +1,5 @@
 -- A dump, line by line: one law a way out of the code. Assumes nothing.
-use Prim.Native.Nat.{ℕ, _+_, _≤_, _<_}
+use Prim.Native.Nat.{ℕ, _+_, _≤_}
 use native.Mathlib.Numerals.{add-one}
 use native.Mathlib.Omega.{arith}
 use mathlib.Core.Path.{_≡_, refl, sym, ap, subst, _∙_}
@@ -17,7 +17,7 @@ use Rattle.replay_words.specs.Cursor.{NextWord, PieceAt, part}
 use Rattle.replay_words.specs.declared.Piece.{Piece}
 use Rattle.replay_words.specs.declared.Word.{Word}
 use Rattle.replay_lines.specs.Cursor.{Body}
-use Rattle.replay_loads.specs.Load.{Load, faulty, loading, loads, other, top-of}
+use Rattle.replay_loads.specs.Load.{loading, loads, top-of}
 use Rattle.replay_loads.specs.Cursor.{PouredLine, measured as measured-line}
 use Rattle.replay_loads.specs.declared.Measured.{Measured}
 use Rattle.replay_loads.specs.declared.Measured.the-variants as measures
@@ -119,10 +119,6 @@ module _ (n : ℕ) (line : List ℕ) {slots counters items : List ℕ} {run coun
     pub loaded-items : {items′ : List ℕ} → run ≢ 0 → run ≢ 1 → PouredLine 18446744073709551615 line items items′
         → Taken n line slots counters items (dumped.Whole s v i) slots counters items′ (dumped.Whole s v count)
     loaded-items a b p = let c = is-load (loading line) q in with-items (c .ws) (c .loads-them) (c .count) a b p
-
-pub told-load : (line : List ℕ) {x : Measured} {run count : ℕ} → x ≡ measured-line (loading line) → x ≡ measures.Loads run count
-    → measures.Loads run count ≡ measured-line (loading line)
-told-load line e q = sym q ∙ e
 
 -- by what stood before it
 module _ (n : ℕ) (line : List ℕ) {slots counters items : List ℕ} where

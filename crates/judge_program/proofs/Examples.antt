@@ -1,6 +1,6 @@
 -- Dumps and what they say, by computation. Assumes nothing.
 use mathlib.Core.Path.{_≡_, refl}
-use mathlib.Core.List.{List, [], _∷_}
+use mathlib.Core.List.{[], _∷_}
 use Rattle.model.specs.Memory.{mem}
 use Rattle.replay_words.specs.Words.{all-digits, before, filled, lines, mark-length, number, number-from, pieces, same, value, without-comment, without-mark, without-return, words}
 use Rattle.replay_print.specs.Text.{bytes}

@@ -4,7 +4,7 @@ use native.Mathlib.Decide.{decLt}
 use native.Mathlib.Omega.{arith}
 use mathlib.Core.Path.{_≡_, refl, sym, ap, _∙_}
 use mathlib.Core.Logic.{dite}
-use mathlib.Core.Bool.{true, false, _&&_}
+use mathlib.Core.Bool.{_&&_}
 use mathlib.Core.Option.{none}
 use mathlib.Core.List.{List}
 use lib.ListN.{length, take}
@@ -19,7 +19,7 @@ use Rattle.model.proofs.Lent.{and-is}
 use Rattle.hashing.proofs.OneBit.{long-length}
 use Rattle.buffer.specs.Put.{Put}
 use Rattle.judgement.specs.Conditions.{is-misshapen}
-use Rattle.judgement.specs.Verdict.{broken, judgement}
+use Rattle.judgement.specs.Verdict.{judgement}
 use Rattle.judgement.specs.Said.{said, seen}
 use Rattle.judgement.specs.declared.Breach.{Breach}
 use Rattle.judgement.specs.declared.Breach.the-variants.{At, Nowhere}
@@ -30,7 +30,7 @@ use Rattle.judging.proofs.InTurn.{by-one}
 use Rattle.replay_loads.proofs.Loads.{poured-front}
 use Rattle.replay_answers.specs.Text.{judged, not-understood}
 use Rattle.judge_program.specs.Dump.{Dump, dump-of, told, unclear, whole}
-use Rattle.judge_program.specs.Standing.{Fronts, Judged, Stands, Told}
+use Rattle.judge_program.specs.Standing.{Judged, Stands, Told}
 use Rattle.judge_program.specs.declared.Dumped.{Dumped}
 use Rattle.judge_program.specs.declared.Dumped.the-variants as dumped
 

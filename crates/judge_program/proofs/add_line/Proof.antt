@@ -1,5 +1,6 @@
 -- `judge_program::add_line` meets its contract. Assumes nothing.
-use Rattle.judge_program.proofs.Dumps.{blank-taken, strange-taken, faulty-taken, told-load}
+use Rattle.replay_loads.proofs.Loads.{told-load}
+use Rattle.judge_program.proofs.Dumps.{blank-taken, strange-taken, faulty-taken}
 use borrow.Author.Needs.{needs}
 use Rattle.judge_program.proofs.add_line.Statement.{statement}
 use Rattle.judge_program.proofs.add_line.Tie as tie

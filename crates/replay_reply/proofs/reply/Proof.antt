@@ -1,5 +1,6 @@
 -- `replay_reply::reply` meets its contract. Assumes nothing.
-use Rattle.replay_reply.proofs.Replies.{as-call, as-faulty, told-load}
+use Rattle.replay_loads.proofs.Loads.{told-load}
+use Rattle.replay_reply.proofs.Replies.{as-call, as-faulty}
 use borrow.Author.Needs.{needs}
 use Rattle.replay_reply.proofs.reply.Statement.{statement}
 use Rattle.replay_reply.proofs.reply.Tie as tie
