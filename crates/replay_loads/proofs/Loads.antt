@@ -258,6 +258,9 @@ is-faulty other e q = let z : _≡_ {A = ℕ} 0 1 = cc in absurd (omega arith)
 is-faulty (faulty y) e q = cc
 is-faulty (loads r ws) e q = let z : _≡_ {A = ℕ} 0 1 = cc in absurd (omega arith)
 
+pub told-load : (line : List ℕ) {m : Measured} {r n : ℕ} → m ≡ measured (loading line) → m ≡ measures.Loads r n → measures.Loads r n ≡ measured (loading line)
+told-load line e q = sym q ∙ e
+
 -- a run, and as many words as were counted
 pub record Counted (x : Load) (r n : ℕ) : Type 0 where
   pub ws : List ℕ

@@ -1,12 +1,11 @@
 -- What the code's steps along a line of a dump say. Assumes nothing.
 use Prim.Native.Nat.{ℕ, _+_, _≤_}
 use mathlib.Core.Path.{_≡_}
-use mathlib.Core.List.{List, [], _∷_}
-use lib.ListN.{length, take, drop}
+use mathlib.Core.List.{List}
+use lib.ListN.{length, take}
 use lib.Seq.{sets}
-use Rattle.replay_words.specs.Words.{without-comment, without-return, words}
+use Rattle.replay_words.specs.Words.{without-comment, without-return}
 use Rattle.replay_words.specs.Cursor.{NextWord}
-use Rattle.replay_words.specs.declared.Word.{Word}
 use Rattle.replay_loads.specs.Load.{Weighed, Load, good, bad, other, faulty, loads, loading, top-of}
 use Rattle.replay_loads.specs.declared.Weight.{Weight}
 use Rattle.replay_loads.specs.declared.Weight.the-variants as weights

@@ -1,6 +1,5 @@
 // A line of a dump: which run it loads, and its words into a lent run. No input or output.
 ghost use mathlib.Core.Path.{_≡_};
-ghost use mathlib.Core.Option.{some};
 ghost use Prim.Native.Nat.{_≤_};
 ghost use lib.ListN.{length, set, drop};
 ghost use Rattle.replay_words.specs.Words.{words};

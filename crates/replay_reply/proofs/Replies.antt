@@ -9,7 +9,6 @@ use lib.ListN.{length, take}
 use lib.Seq.{sets}
 use lib.Dec.{ltb}
 use borrow.Author.Tests.{eq-eqb, le-leb, le-ltb, lt-leb, lt-ltb, ne-eqb}
-use Rattle.model.specs.Memory.{Mem, mem}
 use Rattle.model.specs.Answers.{refused}
 use Rattle.buffer.specs.Put.{Put}
 use Rattle.buffer.proofs.Putting.{put-both}
@@ -20,12 +19,12 @@ use Rattle.replay_loads.specs.Load.{Load, faulty, loading, loads, other, top-of
 use Rattle.replay_loads.specs.Cursor.{PouredLine, measured}
 use Rattle.replay_loads.specs.declared.Measured.{Measured}
 use Rattle.replay_loads.specs.declared.Measured.the-variants as measures
-use Rattle.replay_loads.proofs.Loads.{Counted, is-faulty, is-load, is-other, poured-front}
+use Rattle.replay_loads.proofs.Loads.{is-faulty, is-load, is-other, poured-front}
 use Rattle.replay_answers.specs.Text.{not-understood, text}
-use Rattle.replay_rows.specs.World.{Reply, World, longest-call, longest-line, world}
+use Rattle.replay_rows.specs.World.{World, longest-call, longest-line}
 use Rattle.replay_rows.specs.Meaning.{meaning, says}
-use Rattle.replay_rows.specs.Loaded.{loads-run, room-of, shown-load, with-run}
-use Rattle.replay_rows.specs.Replayed.{by-row, follows, language, loaded, reply-by, reply-to, shown, unheard, unheard-by, unheard-line}
+use Rattle.replay_rows.specs.Loaded.{loads-run, room-of, shown-load}
+use Rattle.replay_rows.specs.Replayed.{by-row, follows, language, reply-by, reply-to, shown, unheard, unheard-by, unheard-line}
 use Rattle.replay_steps.specs.Standing.{in-use, Held, Stepped}
 use Rattle.replay_steps.specs.declared.State.{State}
 use Rattle.replay_reply.specs.Answered.{Answers, Behind, Replaced}
@@ -98,10 +97,6 @@ module _ (e : Bool) (n : ℕ) (w : World) (line : List ℕ) {slots counters item
 
   by-load : (x : Load) → loading line ≡ x → Answers (reply-by x e n w line) (unheard-by x) st r slots counters items out out′ → Answers (reply-by (loading line) e n w line) (unheard-by (loading line)) st r slots counters items out out′
   by-load x q a = rw q a
-
-pub told-load : (line : List ℕ) {m : Measured} {run count : ℕ} → m ≡ measured (loading line) → m ≡ measures.Loads run count
-    → measures.Loads run count ≡ measured (loading line)
-told-load line f q = sym q ∙ f
 
 -- what stands behind one line more is held as before it
 pub held-behind : {slots counters items : List ℕ} {st here : State} {at u : ℕ} → Held slots counters items st → Behind st at u here → Held slots counters items here

@@ -1,6 +1,5 @@
 -- `replay_loads::top_of` meets its contract. Assumes nothing.
 use Rattle.replay_loads.proofs.Loads.{top-narrow, top-items}
-use borrow.Author.Needs.{needs}
 use Rattle.replay_loads.proofs.top_of.Statement.{statement}
 use Rattle.replay_loads.proofs.top_of.Tie as tie
 

@@ -1,5 +1,6 @@
 -- `replay_reply::beside_the_rows` meets its contract. Assumes nothing.
-use Rattle.replay_reply.proofs.Replies.{as-other, as-faulty, told-load}
+use Rattle.replay_loads.proofs.Loads.{told-load}
+use Rattle.replay_reply.proofs.Replies.{as-other, as-faulty}
 use borrow.Author.Needs.{needs}
 use Rattle.replay_reply.proofs.beside_the_rows.Statement.{statement}
 use Rattle.replay_reply.proofs.beside_the_rows.Tie as tie

@@ -1,6 +1,5 @@
 -- `replay_reply::room_of` meets its contract. Assumes nothing.
 use Rattle.replay_reply.proofs.Replies.{room-slots, room-counters, room-items}
-use borrow.Author.Needs.{needs}
 use Rattle.replay_reply.proofs.room_of.Statement.{statement}
 use Rattle.replay_reply.proofs.room_of.Tie as tie
 
