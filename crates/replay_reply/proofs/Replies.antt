@@ -5,7 +5,7 @@ use mathlib.Core.Path.{_≡_, refl, sym, ap, subst, _∙_}
 use mathlib.Core.Logic.{_≢_}
 use mathlib.Core.Bool.{Bool}
 use mathlib.Core.List.{List, _++_}
-use lib.ListN.{length, take}
+use lib.ListN.{length, getD, take}
 use lib.Seq.{sets}
 use lib.Dec.{ltb}
 use borrow.Author.Tests.{eq-eqb, le-leb, le-ltb, lt-leb, lt-ltb, ne-eqb}
@@ -24,7 +24,7 @@ use Rattle.replay_answers.specs.Text.{not-understood, text}
 use Rattle.replay_rows.specs.World.{World, longest-call, longest-line}
 use Rattle.replay_rows.specs.Meaning.{meaning, says}
 use Rattle.replay_rows.specs.Loaded.{loads-run, room-of, shown-load}
-use Rattle.replay_rows.specs.Replayed.{by-row, follows, language, reply-by, reply-to, shown, unheard, unheard-by, unheard-line}
+use Rattle.replay_rows.specs.Replayed.{follows, language, numbers-of, reply-by, reply-to, shown, unheard-by, unheard-line}
 use Rattle.replay_steps.specs.Standing.{in-use, Held, Stepped}
 use Rattle.replay_steps.specs.declared.State.{State}
 use Rattle.replay_reply.specs.Answered.{Answers, Behind, Replaced}
@@ -41,7 +41,7 @@ room-items r a b = rw (ne-eqb r 0 a, ne-eqb r 1 b)
 
 -- a call, by the row that the line follows
 module _ (e : Bool) (slots counters items : List ℕ) {slots′ counters′ items′ out middle out′ : List ℕ} {st r : State} where
-  pub call-made : (row : ℕ) (xs : List ℕ) {at u : ℕ} → Put (shown e (st .number + 1) row xs) (st .at) out middle at → at ≤ st .at + longest-call → u ≡ unheard row
+  pub call-made : (row : ℕ) (xs : List ℕ) {at : ℕ} → Put (shown e (st .number + 1) row xs) (st .at) out middle at → at ≤ st .at + longest-call
       → Stepped (meaning row (st .number + 1) xs (in-use slots counters items st))
       (record {
         slots = st .slots;
@@ -49,12 +49,12 @@ module _ (e : Bool) (slots counters items : List ℕ) {slots′ counters′ item
         items = st .items;
         hand = st .hand;
         number = st .number + 1;
-        missed = st .missed + u;
+        missed = st .missed;
         from = st .from;
         at = at;
       }) r slots′ counters′ items′ middle out′
-      → Answers (follows e (st .number + 1) row xs (in-use slots counters items st)) (unheard row) st r slots′ counters′ items′ out out′
-  call-made row xs t near v s =
+      → Answers (follows e (st .number + 1) row xs (in-use slots counters items st)) 0 st r slots′ counters′ items′ out out′
+  call-made row xs t near s =
       record {
         put = put-both t (s .put);
         near = omega (arith, s .near);
@@ -62,41 +62,36 @@ module _ (e : Bool) (slots counters items : List ℕ) {slots′ counters′ item
         held = s .held;
         next-number = s .same-number;
         same-from = s .same-from;
-        missed = omega (arith, s .same-missed, v);
+        missed = omega (arith, s .same-missed);
       }
 
 -- the row and the numbers of a line, by the rows that the code reads
 pub row-is : (line : List ℕ) {rows : List ℕ} {row : ℕ} → rows ≡ language → row ≡ said rows line .row → row ≡ said language line .row
 row-is line l er = er ∙ ap (λ (b : List ℕ). said b line .row) l
 
-pub numbers-are : (line : List ℕ) {rows xs : List ℕ} {m : ℕ} → rows ≡ language → m ≡ 8 → xs ≡ padded m (said rows line .numbers) → xs ≡ padded 8 (said language line .numbers)
+pub numbers-are : (line : List ℕ) {rows xs : List ℕ} {m : ℕ} → rows ≡ language → m ≡ 8 → xs ≡ padded m (said rows line .numbers) → xs ≡ numbers-of line
 numbers-are line {rows} l k ex = ex ∙ ap (λ (n : ℕ). padded n (said rows line .numbers)) k ∙ ap (λ (b : List ℕ). padded 8 (said b line .numbers)) l
 
-module _ (e : Bool) (n : ℕ) (w : World) (line : List ℕ) {slots counters items out out′ : List ℕ} {st r : State} where
+module _ (e : Bool) (n : ℕ) (w : World) (line : List ℕ) {slots counters items out out′ : List ℕ} {st r : State} {row : ℕ} (er : row ≡ said language line .row) where
   -- a line that follows a row
-  module _ {row : ℕ} {xs : List ℕ} (er : row ≡ said language line .row) (ex : xs ≡ padded 8 (said language line .numbers)) where
-    by-line : {u : ℕ} → unheard row ≡ u → Answers (follows e n row xs w) (unheard row) st r slots counters items out out′ → Answers (by-row e n w line) u st r slots counters items out out′
-    by-line q a =
-        subst (λ (u : ℕ). Answers (by-row e n w line) u st r slots counters items out out′) q
-        (subst (λ (m : ℕ). Answers (follows e n m (padded 8 (said language line .numbers)) w) (unheard row) st r slots counters items out out′) er
-        (subst (λ (ys : List ℕ). Answers (follows e n row ys w) (unheard row) st r slots counters items out out′) ex a))
-
-    pub as-heard : row < 20 → Answers (follows e n row xs w) (unheard row) st r slots counters items out out′ → Answers (reply-to e n w line) (unheard-line line) st r slots counters items out out′
-    unfolding reply-to unheard-line
-    as-heard h a = rw (sym (ap (λ (m : ℕ). ltb m 20) er) ∙ lt-ltb row 20 h) (by-line (rw (lt-ltb row 20 h)) a)
-
-    pub as-other : {m : Measured} → m ≡ measured (loading line) → m ≡ measures.Other → 20 ≤ row → Answers (follows e n row xs w) (unheard row) st r slots counters items out out′
-        → Answers (reply-by (loading line) e n w line) (unheard-by (loading line)) st r slots counters items out out′
-    as-other f q h a = rw (is-other (loading line) f q) (by-line (rw (le-ltb row 20 h)) a)
-
-  -- one that follows none, by what it loads
-  pub as-beside : {row : ℕ} → row ≡ said language line .row → 20 ≤ row → Answers (reply-by (loading line) e n w line) (unheard-by (loading line)) st r slots counters items out out′
+  pub as-heard : {xs : List ℕ} → xs ≡ numbers-of line → row < 20 → Answers (follows e n row xs w) 0 st r slots counters items out out′
       → Answers (reply-to e n w line) (unheard-line line) st r slots counters items out out′
   unfolding reply-to unheard-line
-  as-beside {row} er h a = rw (sym (ap (λ (m : ℕ). ltb m 20) er) ∙ le-ltb row 20 h) a
+  as-heard ex h a =
+      rw (sym (ap (λ (m : ℕ). ltb m 20) er) ∙ lt-ltb row 20 h)
+      (subst (λ (m : ℕ). Answers (follows e n m (numbers-of line) w) 0 st r slots counters items out out′) er
+      (subst (λ (ys : List ℕ). Answers (follows e n row ys w) 0 st r slots counters items out out′) ex a))
 
-  by-load : (x : Load) → loading line ≡ x → Answers (reply-by x e n w line) (unheard-by x) st r slots counters items out out′ → Answers (reply-by (loading line) e n w line) (unheard-by (loading line)) st r slots counters items out out′
-  by-load x q a = rw q a
+  -- and one that follows none
+  pub as-beside : 20 ≤ row → Answers (reply-by (loading line) e n w line) (unheard-by (loading line)) st r slots counters items out out′
+      → Answers (reply-to e n w line) (unheard-line line) st r slots counters items out out′
+  unfolding reply-to unheard-line
+  as-beside h a = rw (sym (ap (λ (m : ℕ). ltb m 20) er) ∙ le-ltb row 20 h) a
+
+by-load : (e : Bool) (n : ℕ) (w : World) (line : List ℕ) {slots counters items out out′ : List ℕ} {st r : State} (x : Load) → loading line ≡ x
+    → Answers (reply-by x e n w line) (unheard-by x) st r slots counters items out out′
+    → Answers (reply-by (loading line) e n w line) (unheard-by (loading line)) st r slots counters items out out′
+by-load e n w line x q a = rw q a
 
 -- what stands behind one line more is held as before it
 pub held-behind : {slots counters items : List ℕ} {st here : State} {at u : ℕ} → Held slots counters items st → Behind st at u here → Held slots counters items here
@@ -124,6 +119,13 @@ module _ {slots counters items out out′ : List ℕ} {st r : State} (k : Held s
         same-from = b .same-from;
         missed = b .missed;
       }
+
+  pub as-other : (e : Bool) (line : List ℕ) {m : Measured} {y at : ℕ} → m ≡ measured (loading line) → m ≡ measures.Other → y ≡ getD (numbers-of line) 0 0
+      → Put (not-understood (st .number + 1) y) (st .at) out out′ at → at ≤ st .at + 384 → Behind st at 1 r
+      → Answers (reply-by (loading line) e (st .number + 1) (in-use slots counters items st) line) (unheard-by (loading line)) st r slots counters items out out′
+  as-other e line {y = y} f q v p near b =
+      by-load e (st .number + 1) (in-use slots counters items st) line other (is-other (loading line) f q)
+      (rw (← v) (said-only (not-understood (st .number + 1) y) 1 p (omega arith) b))
 
   pub as-faulty : (e : Bool) (line : List ℕ) {m : Measured} {y at : ℕ} → m ≡ measured (loading line) → m ≡ measures.Faulty y
       → Put (not-understood (st .number + 1) y) (st .at) out out′ at → at ≤ st .at + 384 → Behind st at 1 r

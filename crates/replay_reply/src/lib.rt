@@ -1,20 +1,19 @@
 // One line of a text and its reply: a call, or a run of a dump.
 ghost use mathlib.Core.Path.{_≡_};
 ghost use Prim.Native.Nat.{_+_, _<_, _≤_};
-ghost use lib.ListN.{length};
-ghost use Rattle.replay_lines.specs.Line.{said, padded};
+ghost use lib.ListN.{length, getD};
 ghost use Rattle.replay_loads.specs.Load.{loading};
 ghost use Rattle.replay_loads.specs.Cursor.{measured};
 ghost use Rattle.replay_loads.specs.declared.Measured.the-variants as measures;
 ghost use Rattle.replay_rows.specs.World.{longest-line};
 ghost use Rattle.replay_rows.specs.Loaded.{room-of as room};
-ghost use Rattle.replay_rows.specs.Replayed.{follows, language, reply-by, reply-to, unheard, unheard-by, unheard-line};
+ghost use Rattle.replay_rows.specs.Replayed.{follows, language, numbers-of, reply-by, reply-to, unheard-by, unheard-line};
 ghost use Rattle.replay_steps.specs.Standing.{in-use, Held};
 ghost use Rattle.replay_reply.specs.Answered.{Answers, Behind, Replaced};
 use replay_loads::Measured;
 use replay_steps::State;
 
-// The call of a line, by the row that it follows; with none it is not understood.
+// The call of a line, by the row that it follows.
 fn make_call(
     rows: &[u8],
     row: usize,
@@ -30,7 +29,7 @@ fn make_call(
     requires { ⌜ (now rows ≡ language) × Held (now slots) (now counters) (now items) state × (state .at + longest-line ≤ length (now out)) ⌝ }
     requires { ⌜ (state .number < state .from) × (state .missed ≤ state .number) × (length (now records) ≡ 81920) × (length (now numbers) ≡ 8) ⌝ }
     ensures { λ r. ⌜ Answers (follows echo (state .number + 1) row (now (numbers .entry)) (in-use (now (slots .entry)) (now (counters .entry)) (now (items .entry)) state))
-        (unheard row) state r (now (slots .exit)) (now (counters .exit)) (now (items .exit)) (now (out .entry)) (now (out .exit)) ⌝ }
+        0 state r (now (slots .exit)) (now (counters .exit)) (now (items .exit)) (now (out .entry)) (now (out .exit)) ⌝ }
 {
     let number = state.number + 1;
     let at = replay_rows::show_call(rows, echo, row, numbers, number, out, state.at);
@@ -40,7 +39,7 @@ fn make_call(
         items: state.items,
         hand: state.hand,
         number,
-        missed: state.missed + replay_rows::unheard(row),
+        missed: state.missed,
         from: state.from,
         at,
     };
@@ -132,41 +131,29 @@ fn load(
     replace(line, run, count, slots, counters, items, here)
 }
 
-// A line that follows no row: one of a dump, or one that is not understood.
+// A line that follows no row: one of a dump, or one that is not understood, and why.
 fn beside_the_rows(
-    rows: &[u8],
     line: &[u8],
-    row: usize,
-    numbers: &[u64],
+    why: u64,
     echo: bool,
     slots: &mut [u32],
     counters: &mut [u32],
     items: &mut [u64],
-    records: &mut [u8],
     out: &mut [u8],
     state: State,
 ) -> State
-    requires { ⌜ (now rows ≡ language) × Held (now slots) (now counters) (now items) state × (state .at + longest-line ≤ length (now out)) ⌝ }
-    requires { ⌜ (state .number < state .from) × (state .missed ≤ state .number) × (length (now records) ≡ 81920) × (length (now numbers) ≡ 8) ⌝ }
-    requires { ⌜ (row ≡ said language (now line) .row) × (now numbers ≡ padded 8 (said language (now line) .numbers)) × (20 ≤ row) ⌝ }
+    requires { ⌜ Held (now slots) (now counters) (now items) state × (state .at + longest-line ≤ length (now out)) ⌝ }
+    requires { ⌜ (state .number < state .from) × (state .missed ≤ state .number) × (why ≡ getD (numbers-of (now line)) 0 0) ⌝ }
     ensures { λ r. ⌜ Answers (reply-by (loading (now (line .entry))) echo (state .number + 1) (in-use (now (slots .entry)) (now (counters .entry)) (now (items .entry)) state) (now (line .entry)))
         (unheard-by (loading (now (line .entry)))) state r (now (slots .exit)) (now (counters .exit)) (now (items .exit)) (now (out .entry)) (now (out .exit)) ⌝ }
 {
     match replay_loads::measure(line) {
-        Measured::Other => make_call(
-            rows,
-            row,
-            numbers,
-            echo,
-            slots,
-            counters,
-            items,
-            records,
-            out,
-            state,
-        ),
-        Measured::Faulty(why) => {
+        Measured::Other => {
             let end = replay_answers::put_not_understood(out, state.at, state.number + 1, why);
+            behind(state, end, 1)
+        }
+        Measured::Faulty(word) => {
+            let end = replay_answers::put_not_understood(out, state.at, state.number + 1, word);
             behind(state, end, 1)
         }
         Measured::Loads(run, count) => load(
@@ -216,17 +203,5 @@ pub fn reply(
             state,
         );
     }
-    beside_the_rows(
-        rows,
-        line,
-        row,
-        &numbers,
-        echo,
-        slots,
-        counters,
-        items,
-        records,
-        out,
-        state,
-    )
+    beside_the_rows(line, numbers[0], echo, slots, counters, items, out, state)
 }

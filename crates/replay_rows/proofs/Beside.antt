@@ -1,18 +1,18 @@
 -- What is asked of a row beside its meaning: one law a way out of the code. Assumes nothing.
-use Prim.Native.Nat.{ℕ, _+_, _*_, _≤_, _<_}
+use Prim.Native.Nat.{ℕ, _+_, _*_, _≤_}
 use native.Mathlib.Omega.{arith}
 use mathlib.Core.Path.{_≡_, refl, ap}
 use mathlib.Core.Logic.{_≢_}
 use mathlib.Core.Bool.{Bool, true, false, not}
 use mathlib.Core.List.{List, []}
 use lib.ListN.{length, getD}
-use borrow.Author.Tests.{le-ltb, lt-ltb, ne-eqb, not-false, not-true}
+use borrow.Author.Tests.{ne-eqb, not-false, not-true}
 use Rattle.buffer.specs.Put.{Put}
 use Rattle.replay_words.specs.Words.{lines}
 use Rattle.replay_echo.specs.Echo.{echo}
 use Rattle.replay_rows.specs.World.{longest-call}
 use Rattle.replay_rows.specs.Loaded.{run-lines, shown-load}
-use Rattle.replay_rows.specs.Replayed.{language, shown, status, unheard}
+use Rattle.replay_rows.specs.Replayed.{language, shown, status}
 
 -- a call is shown before its answer
 pub shown-call : (n row : ℕ) (xs : List ℕ) {e : Bool} {rows out out′ : List ℕ} {at r : ℕ} → rows ≡ language → e ≡ true
@@ -40,13 +40,6 @@ shown-short at l h = omega (arith, ap length l)
 
 pub room-to-show : (at : ℕ) (out : List ℕ) {rows : List ℕ} → rows ≡ language → at + longest-call ≤ length out → at + 26 + 20 * length rows ≤ length out
 room-to-show at out l h = omega (arith, ap length l)
-
--- whether a line was understood
-pub heard : (r : ℕ) → r < 20 → 0 ≡ unheard r
-heard r h = rw (lt-ltb r 20 h)
-
-pub not-heard : (r : ℕ) → 20 ≤ r → 1 ≡ unheard r
-not-heard r h = rw (le-ltb r 20 h)
 
 -- the status
 module _ (w : Bool) (m : ℕ) where

@@ -35,21 +35,21 @@ follows e n r xs w = record { text = shown e n r xs ++ meaning r n xs w .text; w
 abbrev pub loaded : Bool → ℕ → ℕ → List ℕ → World → Reply
 loaded e n r ws w = record { text = shown-load e n r ++ loads-run r ws w .text; world = loads-run r ws w .world }
 
--- whether a line follows a row; its reply by that row, or by none. No row has more than eight numbers
+-- whether a line follows a row; its numbers, of which no row has more than eight; where it follows none, the first says why
 abbrev pub heard : List ℕ → Bool
 heard l = ltb (said language l .row) (length rows)
 
-abbrev pub by-row : Bool → ℕ → World → List ℕ → Reply
-by-row e n w l = follows e n (said language l .row) (padded 8 (said language l .numbers)) w
+abbrev pub numbers-of : List ℕ → List ℕ
+numbers-of l = padded 8 (said language l .numbers)
 
 -- a line that follows no row, by what it loads
 abbrev pub reply-by : Load → Bool → ℕ → World → List ℕ → Reply
-reply-by other e n w l = by-row e n w l
+reply-by other e n w l = says (not-understood n (getD (numbers-of l) 0 0)) w
 reply-by (faulty y) e n w l = says (not-understood n y) w
 reply-by (loads r ws) e n w l = loaded e n r ws w
 
 unfoldable pub reply-to : Bool → ℕ → World → List ℕ → Reply
-reply-to e n w l = choose (heard l) (by-row e n w l) (reply-by (loading l) e n w l)
+reply-to e n w l = choose (heard l) (follows e n (said language l .row) (numbers-of l) w) (reply-by (loading l) e n w l)
 
 -- the lines behind n others, one after the other, each in the world that the one before it left
 unfoldable pub replayed : Bool → ℕ → World → List (List ℕ) → List ℕ
@@ -59,10 +59,6 @@ replayed e n w (l ∷ ls) = reply-to e (suc n) w l .text ++ replayed e (suc n) (
 -- a text from its start, on no table, with the calls shown or not
 abbrev pub answers : Bool → List ℕ → List ℕ
 answers e text = replayed e 0 nothing (lines (without-mark text))
-
--- a line that follows row r is not understood if there is no such row
-abbrev pub unheard : ℕ → ℕ
-unheard r = choose (ltb r (length rows)) 0 1
 
 -- one if a line that follows no row is not understood, by what it loads
 abbrev pub unheard-by : Load → ℕ

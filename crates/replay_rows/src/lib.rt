@@ -5,7 +5,7 @@ ghost use lib.ListN.{length};
 ghost use Rattle.buffer.specs.Put.{Put};
 ghost use Rattle.replay_rows.specs.World.{longest-call};
 ghost use Rattle.replay_rows.specs.Loaded.{shown-load};
-ghost use Rattle.replay_rows.specs.Replayed.{language, shown, status as status-of, unheard as is-unheard};
+ghost use Rattle.replay_rows.specs.Replayed.{language, shown, status as status-of};
 
 // The position behind the answer, and the hand afterwards.
 pub struct Turn {
@@ -49,16 +49,6 @@ pub fn show_load(echo: bool, run: usize, number: u64, out: &mut [u8], at: usize)
         out,
         at,
     )
-}
-
-// One if there is no such row, so that its line was not understood.
-pub fn unheard(row: usize) -> u64
-    ensures { λ r. ⌜ (r ≡ is-unheard row) × (r ≤ 1) ⌝ }
-{
-    if row < 20 {
-        return 0;
-    }
-    1
 }
 
 // The status of a replay: whether its answers could be written, and how many of its lines were not understood.
