@@ -203,5 +203,9 @@ pub fn reply(
             state,
         );
     }
+    // Called from two places it stays a call, and the loop that nearly all lines take stays small.
+    if numbers[0] != 0 {
+        return beside_the_rows(line, numbers[0], echo, slots, counters, items, out, state);
+    }
     beside_the_rows(line, numbers[0], echo, slots, counters, items, out, state)
 }

@@ -16,14 +16,26 @@ returns c =
 
 beside-requires : tie.Need-beside-the-rows-requires
 beside-requires c κs =
-    let asked = c .before .before .before .before .before .before .before .before .before .before .before .before .before .before .before .pre in
-    let row = c .before .before .before .before .before .before .row-of .ensures in
+    let asked = c .before .before .before .before .before .before .before .before .before .before .before .before .before .before .before .before .pre in
+    let row = c .before .before .before .before .before .before .before .row-of .ensures in
     ((asked .0 .1, asked .0 .2), (asked .1 .0, asked .1 .1, ap (λ (l : List ℕ). getD l 0 0) (numbers-are _ (asked .0 .0) refl (row .1))))
 
 returns-2 : tie.Need-returns-2
 returns-2 c =
-    let asked = c .before .before .before .before .before .before .before .before .before .before .before .before .before .before .before .before .before .before .before .before .before .before .before .before .pre in
-    let row = c .before .before .before .before .before .before .before .before .before .before .before .before .before .before .before .row-of .ensures in
+    let asked = c .before .before .before .before .before .before .before .before .before .before .before .before .before .before .before .before .before .before .before .before .before .before .before .before .before .pre in
+    let row = c .before .before .before .before .before .before .before .before .before .before .before .before .before .before .before .before .row-of .ensures in
+    search (as-beside, row-is _ (asked .0 .0) (row .0))
+
+beside-requires-2 : tie.Need-beside-the-rows-requires-2
+beside-requires-2 c κs =
+    let asked = c .before .before .before .before .before .before .before .before .before .before .before .before .before .before .before .before .pre in
+    let row = c .before .before .before .before .before .before .before .row-of .ensures in
+    ((asked .0 .1, asked .0 .2), (asked .1 .0, asked .1 .1, ap (λ (l : List ℕ). getD l 0 0) (numbers-are _ (asked .0 .0) refl (row .1))))
+
+returns-3 : tie.Need-returns-3
+returns-3 c =
+    let asked = c .before .before .before .before .before .before .before .before .before .before .before .before .before .before .before .before .before .before .before .before .before .before .before .before .before .pre in
+    let row = c .before .before .before .before .before .before .before .before .before .before .before .before .before .before .before .before .row-of .ensures in
     search (as-beside, row-is _ (asked .0 .0) (row .0))
 
 pub reply-spec : {M : Type 1} → statement M
@@ -31,5 +43,6 @@ reply-spec =
     tie.close
     (tie.spec
     (λ c. search needs) (λ c κs. search needs) (λ c. search needs) (λ c κs. search needs) (λ c. search needs) (λ c. search needs) (λ c. search needs)
-    (λ c. search needs) (λ c. search needs) returns (λ c. search needs) beside-requires (λ c. search needs) (λ c. search needs) (λ c. search needs)
-    (λ c. search needs) returns-2)
+    (λ c. search needs) (λ c. search needs) returns (λ c. search needs) (λ c. search needs) beside-requires (λ c. search needs) (λ c. search needs)
+    (λ c. search needs) (λ c. search needs) returns-2 (λ c. search needs) beside-requires-2 (λ c. search needs) (λ c. search needs) (λ c. search needs)
+    (λ c. search needs) returns-3)
