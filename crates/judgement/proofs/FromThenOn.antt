@@ -1,6 +1,6 @@
 -- What a yes is worth: from a memory that is judged sound on, demands 2 and 3 hold. Assumes nothing.
 use Prim.Native.Nat.{ℕ, _<_}
-use mathlib.Core.Path.{_≡_, refl, sym, ap, _∙_, subst}
+use mathlib.Core.Path.{_≡_, refl, ap, _∙_, subst}
 use mathlib.Core.Bool.{true}
 use mathlib.Core.List.{List, [], _∷_}
 use Rattle.model.specs.Choice.{choose}
@@ -15,7 +15,6 @@ use Rattle.model.specs.Demands.{Allowed, Story}
 use Rattle.model.specs.Ours.{ours}
 use Rattle.model.proofs.OnWellFormed.{as-row-on, counts-on, fresh-on, roomy-on, seen-on, still-right}
 use Rattle.model.proofs.Demands.{along}
-use Rattle.judgement.specs.Verdict.{judgement, sound}
 use Rattle.judgement.specs.FromThenOn.{FromThenOn, SoundThenDemands, then, row-then}
 use Rattle.judgement.proofs.Sound.{alike-sound, sound-well}
 

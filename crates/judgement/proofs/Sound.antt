@@ -1,6 +1,6 @@
 -- The verdict: yes exactly if the lengths are right and the table is well-formed; no with the first broken condition and the lowest
 -- number that breaks it; and ours gets a yes. Assumes nothing.
-use Prim.Native.Nat.{ℕ, _≤_}
+use Prim.Native.Nat.{ℕ}
 use native.Mathlib.Omega.{arith}
 use mathlib.Core.Path.{_≡_, refl, sym, subst}
 use mathlib.Core.Logic.{_↔_}

@@ -15,6 +15,7 @@ owed =
     record {
       sound-iff = sound.sound-iff;
       broken-first = sound.broken-first;
+      ours-judges = judges.ours-judges;
       one-judge = judges.one-judge;
       yes-to-all = refuted.yes-to-all;
       no-to-all = refuted.no-to-all;

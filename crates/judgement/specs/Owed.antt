@@ -1,5 +1,5 @@
 -- Every statement that is owed of the judge; proofs/Theorems has them all. Assumes nothing.
-use Prim.Native.Nat.{ℕ, _*_, _/_}
+use Prim.Native.Nat.{ℕ, _/_}
 use mathlib.Core.Path.{_≡_}
 use mathlib.Core.Logic.{_≢_, _↔_}
 use mathlib.Core.Bool.{true}
@@ -43,7 +43,8 @@ pub record Owed : Type 0 where
   -- yes exactly if the eight conditions hold; no with the first broken and the lowest number that breaks it; for any ways
   pub sound-iff : (W : Ways) (m : Mem) → (judgement W m ≡ sound) ↔ Good W m
   pub broken-first : (W : Ways) (m : Mem) (c i : ℕ) → judgement W m ≡ broken c i → FirstBroken W m c i
-  -- so no judge can say anything else, on any memory
+  -- so ours is a judge, and no judge can say anything else, on any memory
+  pub ours-judges : (W : Ways) → Judges W (judgement W)
   pub one-judge : (W : Ways) (J : Mem → Verdict) → Judges W J → (m : Mem) → J m ≡ judgement W m
   -- wrong judges: a yes to all, a no to all, and 0 told as the lowest always
   pub yes-to-all : ¬ Judges four (λ m. sound)

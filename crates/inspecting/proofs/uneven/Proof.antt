@@ -3,8 +3,5 @@ use borrow.Author.Needs.{needs}
 use Rattle.inspecting.proofs.uneven.Statement.{statement}
 use Rattle.inspecting.proofs.uneven.Tie as tie
 
-returns : tie.Need-returns
-returns c = search needs
-
 pub uneven-spec : {M : Type 1} → statement M
-uneven-spec = tie.close (tie.spec returns)
+uneven-spec = tie.close (tie.spec (λ c. search needs))

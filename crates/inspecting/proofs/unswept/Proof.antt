@@ -3,8 +3,5 @@ use borrow.Author.Needs.{needs}
 use Rattle.inspecting.proofs.unswept.Statement.{statement}
 use Rattle.inspecting.proofs.unswept.Tie as tie
 
-returns : tie.Need-returns
-returns c = search needs
-
 pub unswept-spec : {M : Type 1} → statement M
-unswept-spec = tie.close (tie.spec returns)
+unswept-spec = tie.close (tie.spec (λ c. search needs))

@@ -3,8 +3,5 @@ use borrow.Author.Needs.{needs}
 use Rattle.inspecting.proofs.wide_permission.Statement.{statement}
 use Rattle.inspecting.proofs.wide_permission.Tie as tie
 
-returns : tie.Need-returns
-returns c = search needs
-
 pub wide-permission-spec : {M : Type 1} → statement M
-wide-permission-spec = tie.close (tie.spec returns)
+wide-permission-spec = tie.close (tie.spec (λ c. search needs))

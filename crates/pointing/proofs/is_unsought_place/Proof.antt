@@ -5,45 +5,14 @@ use borrow.Author.Needs.{needs}
 use Rattle.pointing.proofs.is_unsought_place.Statement.{statement}
 use Rattle.pointing.proofs.is_unsought_place.Tie as tie
 
-mul-x : tie.Need-mul-x
-mul-x c = search needs
-
-mul-x-2 : tie.Need-mul-x-2
-mul-x-2 c = search needs
-
-shared-slice-read-x : tie.Need-shared-slice-read-x
-shared-slice-read-x c = search needs
-
-returns : tie.Need-returns
-returns c = search by-vacant-place
-
-homes-in-requires : tie.Need-homes-in-requires
-homes-in-requires c κs = search needs
-
-home-words-of-requires : tie.Need-home-words-of-requires
-home-words-of-requires c κs = search needs
-
 cast-pointers : tie.Need-cast-pointers
 cast-pointers c =
     let s = c .before .before .before .before .before .before .before in
     record { fits = place-fits (mem (s .args .slots .now) (s .args .counters .now) (s .args .items .now)) _ (s .pre .0 .right) (s .pre .1) }
 
-pointers-requires : tie.Need-pointers-requires
-pointers-requires c κs = search needs
-
-returns-2 : tie.Need-returns-2
-returns-2 c = search by-pointers
-
 pub is-unsought-place-spec : {M : Type 1} → statement M
 is-unsought-place-spec =
     tie.close
     (tie.spec
-    mul-x
-    mul-x-2
-    shared-slice-read-x
-    returns
-    homes-in-requires
-    home-words-of-requires
-    cast-pointers
-    pointers-requires
-    returns-2)
+    (λ c. search needs) (λ c. search needs) (λ c. search needs) (λ c. search by-vacant-place) (λ c κs. search needs) (λ c κs. search needs)
+    cast-pointers (λ c κs. search needs) (λ c. search by-pointers))

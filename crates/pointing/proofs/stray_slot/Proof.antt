@@ -15,37 +15,9 @@ Inv-loop slots counters items i₀ i = Passed (is-stray (shape-of four (mem slot
 abbrev μ-loop : tie.MeasureT-loop
 μ-loop slots counters items i₀ i = length slots - i
 
-loop-holds : tie.Need-loop-holds Inv-loop μ-loop
-loop-holds c = search passed-none
-
-is-stray-slot-requires : tie.Need-is-stray-slot-requires Inv-loop μ-loop
-is-stray-slot-requires c κs = search needs
-
-returns : tie.Need-returns Inv-loop μ-loop
-returns c = search by-broken
-
-add-i : tie.Need-add-i Inv-loop μ-loop
-add-i c = search needs
-
-loop-less : tie.Need-loop-less Inv-loop μ-loop
-loop-less c = search needs
-
-loop-again : tie.Need-loop-again Inv-loop μ-loop
-loop-again c = search by-whole
-
-returns-2 : tie.Need-returns-2 Inv-loop μ-loop
-returns-2 c = search by-end
-
 pub stray-slot-spec : {M : Type 1} → statement M
 stray-slot-spec =
     tie.close
     (tie.spec
-    Inv-loop
-    μ-loop
-    loop-holds
-    is-stray-slot-requires
-    returns
-    add-i
-    loop-less
-    loop-again
-    returns-2)
+    Inv-loop μ-loop (λ c. search passed-none) (λ c κs. search needs) (λ c. search by-broken) (λ c. search needs) (λ c. search needs)
+    (λ c. search by-whole) (λ c. search by-end))

@@ -15,37 +15,9 @@ Inv-loop slots counters items m p₀ p = Passed (is-unsought (shape-of four (mem
 abbrev μ-loop : tie.MeasureT-loop
 μ-loop slots counters items m p₀ p = length items / 4 - p
 
-loop-holds : tie.Need-loop-holds Inv-loop μ-loop
-loop-holds c = search passed-none
-
-is-unsought-place-requires : tie.Need-is-unsought-place-requires Inv-loop μ-loop
-is-unsought-place-requires c κs = search needs
-
-returns : tie.Need-returns Inv-loop μ-loop
-returns c = search by-broken
-
-add-p : tie.Need-add-p Inv-loop μ-loop
-add-p c = search needs
-
-loop-less : tie.Need-loop-less Inv-loop μ-loop
-loop-less c = search needs
-
-loop-again : tie.Need-loop-again Inv-loop μ-loop
-loop-again c = search by-whole
-
-returns-2 : tie.Need-returns-2 Inv-loop μ-loop
-returns-2 c = search by-end
-
 pub unsought-place-spec : {M : Type 1} → statement M
 unsought-place-spec =
     tie.close
     (tie.spec
-    Inv-loop
-    μ-loop
-    loop-holds
-    is-unsought-place-requires
-    returns
-    add-p
-    loop-less
-    loop-again
-    returns-2)
+    Inv-loop μ-loop (λ c. search passed-none) (λ c κs. search needs) (λ c. search by-broken) (λ c. search needs) (λ c. search needs)
+    (λ c. search by-whole) (λ c. search by-end))
