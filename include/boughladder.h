@@ -165,8 +165,8 @@ enum BoughladderCondition {
     BOUGHLADDER_SOUND = 0,             /* none is broken: a yes */
     BOUGHLADDER_WRONG_LENGTH = 1,      /* a length is not as above; the run: 0 slots, 1 counters, 2 items */
     BOUGHLADDER_DAMAGED_WORD = 2,      /* a word that no call writes; its slot */
-    BOUGHLADDER_ODD_COUNTER = 3,       /* a write was cut off; the counter */
-    BOUGHLADDER_STRAY_SLOT = 4,        /* the slot's place holds no animal, or one with another tag or other buckets */
+    BOUGHLADDER_ODD_COUNTER = 3,       /* a write was cut off, or something else wrote there; the counter */
+    BOUGHLADDER_STRAY_SLOT = 4,        /* its place holds no animal, or one of another tag or other buckets; the slot */
     BOUGHLADDER_NOT_ONE_SLOT = 5,      /* no slot points to a place that is taken, or several do; the place */
     BOUGHLADDER_TWIN = 6,              /* another place holds the same animal; the place */
     BOUGHLADDER_WIDE_PERMISSION = 7,   /* a permission above 32 bits, where taken or vacant; the place */

@@ -33,7 +33,7 @@ fn is_blank(line: &[u8]) -> bool
     start == end
 }
 
-// The words of a line into its run; a run longer than what is lent for it keeps its length.
+// The words of a line into its run. Of a run longer than what is lent for it the rest is dropped, and its whole length is told.
 fn load(
     line: &[u8],
     number: u64,

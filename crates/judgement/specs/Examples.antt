@@ -38,8 +38,8 @@ verdicts =
     ∷ record { says = judged (0 ∷ 4063232 ∷ 13107202 ∷ 0 ∷ 16777216 ∷ 0 ∷ 0 ∷ 0 ∷ []) (0 ∷ 0 ∷ []) (1 ∷ 7 ∷ 100 ∷ 1 ∷ 0 ∷ 0 ∷ 0 ∷ 0 ∷ 5 ∷ 7 ∷ 100 ∷ 1 ∷ 0 ∷ 0 ∷ 0 ∷ 0 ∷ []); document = 2 ∷ 4 ∷ [] }
     -- 3: an odd counter is told before a stray slot
     ∷ record { says = judged (4128768 ∷ 4063232 ∷ 13107202 ∷ 0 ∷ 0 ∷ 0 ∷ 0 ∷ 0 ∷ []) (0 ∷ 3 ∷ []) (1 ∷ 7 ∷ 100 ∷ 1 ∷ 0 ∷ 0 ∷ 0 ∷ 0 ∷ 5 ∷ 7 ∷ 100 ∷ 1 ∷ 0 ∷ 0 ∷ 0 ∷ 0 ∷ []); document = 3 ∷ 1 ∷ [] }
-    -- 4: another tag, and so place 0 is not pointed to: 4 is told
-    ∷ record { says = judged (0 ∷ 4128768 ∷ 13107202 ∷ 0 ∷ 0 ∷ 0 ∷ 0 ∷ 0 ∷ []) (0 ∷ 0 ∷ []) (1 ∷ 7 ∷ 100 ∷ 1 ∷ 0 ∷ 0 ∷ 0 ∷ 0 ∷ 5 ∷ 7 ∷ 100 ∷ 1 ∷ 0 ∷ 0 ∷ 0 ∷ 0 ∷ []); document = 4 ∷ 1 ∷ [] }
+    -- 4: another tag, and no slot points to place 0: 4 is told
+    ∷ record { says = judged (0 ∷ 4128770 ∷ 13107202 ∷ 0 ∷ 0 ∷ 0 ∷ 0 ∷ 0 ∷ []) (0 ∷ 0 ∷ []) (1 ∷ 7 ∷ 100 ∷ 1 ∷ 0 ∷ 0 ∷ 0 ∷ 0 ∷ 5 ∷ 7 ∷ 100 ∷ 1 ∷ 0 ∷ 0 ∷ 0 ∷ 0 ∷ []); document = 4 ∷ 1 ∷ [] }
     -- a vacant place; the tag of number 0 is no better
     ∷ record { says = judged (0 ∷ 4063232 ∷ 13107202 ∷ 0 ∷ 0 ∷ 0 ∷ 13107203 ∷ 0 ∷ []) (0 ∷ 0 ∷ []) (1 ∷ 7 ∷ 100 ∷ 1 ∷ 0 ∷ 0 ∷ 0 ∷ 0 ∷ 5 ∷ 7 ∷ 100 ∷ 1 ∷ 0 ∷ 0 ∷ 0 ∷ 0 ∷ []); document = 4 ∷ 6 ∷ [] }
     ∷ record { says = judged (0 ∷ 4063232 ∷ 13107202 ∷ 0 ∷ 0 ∷ 0 ∷ 10158083 ∷ 0 ∷ []) (0 ∷ 0 ∷ []) (1 ∷ 7 ∷ 100 ∷ 1 ∷ 0 ∷ 0 ∷ 0 ∷ 0 ∷ 5 ∷ 7 ∷ 100 ∷ 1 ∷ 0 ∷ 0 ∷ 0 ∷ 0 ∷ []); document = 4 ∷ 6 ∷ [] }

@@ -26,7 +26,7 @@ module _ (W : Ways) where
   abbrev pub OursPass : (Mem → Verdict) → Type 0
   OursPass J = (s : Story W) → J (table W (ours W) s) ≡ sound
 
--- what it is to break 4, 5 and 6, without a count and without a test: where the lengths are right
+-- what it is to break 4, 5 and, where the lengths are right, 6, without a count and without a test
 module _ (Y : Shape) (m : Mem) where
   abbrev pub StrayIff : Type 0
   StrayIff = (i : ℕ) → (is-stray Y m i ≡ true) ↔ ((word m i ≢ 0) × (¬ Right Y (animal (m .items) (place (word m i))) (word m i) i))

@@ -55,7 +55,7 @@ pub record Owed : Type 0 where
   pub eight-sound : OursPass eight (judgement eight)
   -- after a yes, whoever built the table, demands 2 and 3 hold from then on
   pub sound-then-demands : (W : Ways) (m : Mem) → SoundThenDemands W (ours W) m
-  -- 5 and 6 need only the home slots: so the judge takes linear time
+  -- 5 and 6 need only the home slots: the code goes by that
   pub pointers-at-home : (W : Ways) (m : Mem) → PointersAtHome W m
   pub twins-at-home : (W : Ways) (m : Mem) → TwinsAtHome W m
   -- what it is to break 4, 5 and 6, without a count and without a test

@@ -8,7 +8,7 @@ ghost use Rattle.replay_loads.specs.Cursor.{BehindName, Poured, PouredLi
 use replay_words::Number;
 use replay_words::Word;
 
-// No word of slots or counters is larger, and none of items.
+// The largest word of slots and counters, and of items.
 const LARGEST: u64 = 4294967295;
 
 const LARGEST_ITEM: u64 = 18446744073709551615;
