@@ -202,28 +202,24 @@ fn tell(text: &[u8]) {
     tell_in(text, &mut slots, &mut counters, &mut items, &mut out);
 }
 
-// Judges the standard input, with the memory that it is lent for it; nothing is judged of more, or of what can't be read to its end.
-pub fn run(text: &mut [u8]) {
+// Judges the standard input, with the memory that it is lent for it, and gives 0; or 1: nothing is judged of more, or of what can't be read to its end.
+pub fn run(text: &mut [u8]) -> u8
+    ensures { λ r. ⌜ r ≤ 1 ⌝ }
+{
     let n = io::read_full(STDIN_FILENO, text);
     let mut more = [0u8; 1];
     let got = libc::read(STDIN_FILENO, &mut more);
     if got == 0 {
         tell(&text[..n]);
-        return;
+        return 0;
     }
-    if got < 0 {
+    if (got < 0) | (n < text.len()) {
         io::write_all(
             STDERR_FILENO,
             b"judge_dump: a read failed, nothing was judged\n",
         );
-        return;
-    }
-    if n < text.len() {
-        io::write_all(
-            STDERR_FILENO,
-            b"judge_dump: a read failed, nothing was judged\n",
-        );
-        return;
+        return 1;
     }
     io::write_all(STDOUT_FILENO, b"too long\n");
+    1
 }
