@@ -34,8 +34,8 @@
  * The cut forms make only the first k stores of their call and answer as the whole call does: they show what a loss of
  * power leaves. A counter left odd by a cut makes its animals busy (refusal 8), and they stay busy until fresh.
  *
- * Minutes are counted by the caller. UINT64_MAX is no minute: as a stamp it marks a standing permission. Count from
- * long ago, so that now is above 10080: then a limit and a now that are swapped are refusal 3.
+ * Minutes are counted by the caller. UINT64_MAX is no minute. Count from long ago, so that now is above 10080: then a
+ * limit and a now that are swapped are refusal 3.
  *
  * The two minutes of a set. issued is the minute in which the office gave the permission, by the gate's count; the list
  * brings it, and a relay on the way leaves it alone. It becomes the stamp, so age runs from issue and not from arrival.
@@ -47,7 +47,11 @@
  *   - after a delete, an eviction or fresh a late list is stored, and is fresh if its issue minute is within the limit;
  *   - what came with minutes that ran ahead locks its animal: it reads as ahead, and every true list is late, until the
  *     clock is there; then the old permission is fresh once more. Delete her, then set her again.
- * A standing permission is never late, and over a standing one no list is.
+ *
+ * Standing permissions are retired: no set makes one. A table from before 4.0.0 may hold some, with UINT64_MAX as their
+ * stamp. Such an entry is old at every minute and under every limit, overdue by as much as is ever told, so it opens no
+ * gate; serve leaves its recent word alone. No list is late for it: the next set of its animal replaces it. The list
+ * writes it as it is stored, and judge takes it for sound.
  *
  * No call takes memory but the three runs and the stack: about 3.2 KB for set, at most 0.4 KB for any other, as
  * examples/c/stack.c measures it.
@@ -63,21 +67,26 @@
 #include <stdint.h>
 
 /* This header's version, as text and as numbers. The archive has none to ask for: ship both from one release.
-   A caller of 3.0.0 needs no change: judge joins.
+   A caller of 3.x that calls boughladder_set or its cut form does not compile: the argument standing is gone, and so are
+   boughladder_table_set_standing, its cut form and BOUGHLADDER_STANDING. Any other needs no change.
    A caller of 2.x that reads the age does not compile: left is the limit minus the age. Any other needs no change.
    Don't only rename it: left <= limit is true of absent, ahead and refused, and with a signed limit of old as well.
    Test kind, or ask boughladder_lane.
    A caller of 1.0.0 does not compile: each set takes one minute more, and over a table a standing one takes two.
    Compile and link everything again. What is mixed does link (only judge is missing before 3.1.0, plain read before
    2.1.0):
+     - what was compiled with 2.0.0 to 3.1.0 and sets a standing permission stores one with its minute of issue. Its cut
+       form of set takes standing for k;
+     - this header with an archive of 2.0.0 to 3.1.0 passes no standing: what lies on the stack is taken for it, and
+       permissions may be fresh for ever;
      - what was compiled with 2.x takes what is left for the age: in its last good minute a permission looks new;
      - this header with an archive of 2.x takes the age for what is left: an old permission has minutes left;
      - what was compiled with 1.0.0 passes a set's numbers one place off, and so does this header to the archive of
        1.0.0, which takes now for standing: every permission is then fresh for ever.
-   Refusal, kind, permission and lane are right in the first two. */
-#define BOUGHLADDER_VERSION "3.1.0"
-#define BOUGHLADDER_VERSION_MAJOR 3
-#define BOUGHLADDER_VERSION_MINOR 1
+   Refusal, kind, permission and lane are right in the third and the fourth. */
+#define BOUGHLADDER_VERSION "4.0.0"
+#define BOUGHLADDER_VERSION_MAJOR 4
+#define BOUGHLADDER_VERSION_MINOR 0
 #define BOUGHLADDER_VERSION_PATCH 0
 
 /* Sizes: words of slots for n buckets, words of items for m places, bytes of a whole list of m places. V counters are
@@ -96,7 +105,11 @@
 #define BOUGHLADDER_MOST_M 4096
 #define BOUGHLADDER_LARGEST_LIMIT 10080 /* minutes: a week */
 #define BOUGHLADDER_LEAST_LEFT (-INT64_C(4611686018427387904)) /* -2^62 minutes; what would be less is told as this */
-#define BOUGHLADDER_STANDING UINT64_MAX /* the stamp of a standing permission; no minute */
+
+/* Three meanings of one number. */
+#define BOUGHLADDER_NO_MINUTE UINT64_MAX    /* as now: refusal 3 */
+#define BOUGHLADDER_RETIRED_MARK UINT64_MAX /* as the stamp of an entry: a standing permission from before 4.0.0 */
+#define BOUGHLADDER_ALL_STORES UINT64_MAX   /* as k of a cut form: nothing is cut off */
 
 /* Permission bits. The other bits are the caller's. */
 #define BOUGHLADDER_MAY_MILK 1u
@@ -140,7 +153,7 @@ enum BoughladderRefusal {
     BOUGHLADDER_OK = 0,            /* not refused */
     BOUGHLADDER_BAD_SHAPE = 1,     /* a length is not as above, or the hand is M or more */
     BOUGHLADDER_NO_ANIMAL = 2,     /* the animal number is 0 */
-    BOUGHLADDER_BAD_TIME = 3,      /* the limit is above 10080, now is UINT64_MAX, or issued is later than now */
+    BOUGHLADDER_BAD_TIME = 3,      /* the limit is above 10080, now is no minute, or issued is later than now */
     BOUGHLADDER_DAMAGED = 4,       /* a word that no call writes was read, or evict's victim has no slot */
     BOUGHLADDER_NO_PLACE = 5,      /* set of an absent animal: all M places are taken */
     BOUGHLADDER_NO_ROOM = 6,       /* set of an absent animal: no free slot within four moves */
@@ -148,14 +161,14 @@ enum BoughladderRefusal {
     BOUGHLADDER_BUSY = 8,          /* the animal's counter is odd: a write was cut off */
     BOUGHLADDER_SHORT_BUFFER = 9,  /* the list needs 20 bytes for each place that is taken */
     BOUGHLADDER_NO_VICTIM = 10,    /* the hand found no victim: proved never to happen */
-    BOUGHLADDER_LATE = 11          /* set of a held animal: its stamp is later than issued, and neither is standing */
+    BOUGHLADDER_LATE = 11          /* set of a held animal: its stamp is later than issued, and not retired */
 };
 
 /* What a call that was not refused found. */
 enum BoughladderKind {
     BOUGHLADDER_ABSENT = 0,   /* the animal is not held */
-    BOUGHLADDER_FRESH = 1,    /* a permission within the limit, or a standing one, which has the whole limit left */
-    BOUGHLADDER_OLD = 2,      /* a permission beyond the limit: how long it is overdue is told, and no permission */
+    BOUGHLADDER_FRESH = 1,    /* a permission within the limit */
+    BOUGHLADDER_OLD = 2,      /* beyond the limit, or retired: how long it is overdue is told, and no permission */
     BOUGHLADDER_AHEAD = 3,    /* a stamp later than now */
     BOUGHLADDER_AT_PLACE = 9  /* find: the animal is held at a place */
 };
@@ -225,7 +238,7 @@ typedef struct BoughladderJudgement {
 typedef struct BoughladderRecord {
     uint64_t animal;
     uint32_t permission;
-    uint64_t stamp;  /* a minute, or BOUGHLADDER_STANDING */
+    uint64_t stamp;  /* a minute, or BOUGHLADDER_RETIRED_MARK */
 } BoughladderRecord;
 
 /*
@@ -239,7 +252,7 @@ BOUGHLADDER_MUST_USE
 uint32_t boughladder_fresh(uint32_t *slots, size_t slots_length, uint32_t *counters, size_t counters_length,
                            uint64_t *items, size_t items_length);
 
-/* Says whether the animal's permission is fresh: held, not ahead of now, and at most limit minutes old; or standing.
+/* Says whether the animal's permission is fresh: held, not ahead of now, and at most limit minutes old.
    Refusals 1, 2, 3, 8, 4, in this order. */
 BOUGHLADDER_MUST_USE
 BoughladderReading boughladder_read(const uint32_t *slots, size_t slots_length, const uint32_t *counters,
@@ -260,21 +273,19 @@ BoughladderFinding boughladder_find(const uint32_t *slots, size_t slots_length, 
                                     size_t counters_length, const uint64_t *items, size_t items_length,
                                     uint64_t animal);
 
-/* Stores a permission with the stamp issued, or as a standing one where standing is not 0, over the one that is held.
-   A stamp equal to the held one is stored. A standing set's minutes are tested as any other's, and then dropped.
+/* Stores a permission with the stamp issued, over the one that is held. A stamp equal to the held one is stored.
    Refusals 1, 2, 3, 8, 4, in this order; then 11 for an animal that is held, or 5, 4 and 6 for one that is not. */
 BOUGHLADDER_MUST_USE
 BoughladderSetting boughladder_set(uint32_t *slots, size_t slots_length, uint32_t *counters, size_t counters_length,
                                    uint64_t *items, size_t items_length, uint64_t animal, uint32_t permission,
-                                   uint64_t issued, uint64_t now, uint32_t standing);
+                                   uint64_t issued, uint64_t now);
 
 /* Set, of which only the first k stores are made: a new entry takes 7 stores and 4 more for each move, an update 5.
    Reply and refusals as set, for every k. */
 BOUGHLADDER_MUST_USE
 BoughladderSetting boughladder_set_cut(uint32_t *slots, size_t slots_length, uint32_t *counters,
                                        size_t counters_length, uint64_t *items, size_t items_length, uint64_t animal,
-                                       uint32_t permission, uint64_t issued, uint64_t now, uint32_t standing,
-                                       uint64_t k);
+                                       uint32_t permission, uint64_t issued, uint64_t now, uint64_t k);
 
 /* Takes the animal's entry away. The reply is the refusal number, 0 for success.
    Refusals 1, 2, 8, 4, 7. */
@@ -404,28 +415,14 @@ static inline BoughladderFinding boughladder_table_find(const BoughladderTable *
 BOUGHLADDER_MUST_USE
 static inline BoughladderSetting boughladder_table_set(BoughladderTable *table, uint64_t animal, uint32_t permission,
                                                        uint64_t issued, uint64_t now) {
-    return boughladder_set(BOUGHLADDER_LENT_(table), animal, permission, issued, now, 0);
-}
-
-/* Always fresh. Its minutes are only tested: one that was issued later than now is refusal 3. */
-BOUGHLADDER_MUST_USE
-static inline BoughladderSetting boughladder_table_set_standing(BoughladderTable *table, uint64_t animal,
-                                                                uint32_t permission, uint64_t issued, uint64_t now) {
-    return boughladder_set(BOUGHLADDER_LENT_(table), animal, permission, issued, now, 1);
+    return boughladder_set(BOUGHLADDER_LENT_(table), animal, permission, issued, now);
 }
 
 BOUGHLADDER_MUST_USE
 static inline BoughladderSetting boughladder_table_set_cut(BoughladderTable *table, uint64_t animal,
                                                            uint32_t permission, uint64_t issued, uint64_t now,
                                                            uint64_t k) {
-    return boughladder_set_cut(BOUGHLADDER_LENT_(table), animal, permission, issued, now, 0, k);
-}
-
-BOUGHLADDER_MUST_USE
-static inline BoughladderSetting boughladder_table_set_standing_cut(BoughladderTable *table, uint64_t animal,
-                                                                    uint32_t permission, uint64_t issued,
-                                                                    uint64_t now, uint64_t k) {
-    return boughladder_set_cut(BOUGHLADDER_LENT_(table), animal, permission, issued, now, 1, k);
+    return boughladder_set_cut(BOUGHLADDER_LENT_(table), animal, permission, issued, now, k);
 }
 
 BOUGHLADDER_MUST_USE
