@@ -10,29 +10,32 @@ use Rattle.model.specs.Shape.{four, shape-of, good-counters, good-items,
 use Rattle.model.specs.Moves.{Legal}
 use Rattle.model.specs.WellFormed.{WellFormed}
 use Rattle.model.specs.Visits.{climb, first-free, free-slot, hops, lowest, next-level, sum-of-powers, visits}
-use Rattle.model.specs.Age.{age, is-fresh, left-of, verdict}
+use Rattle.model.specs.Age.{is-fresh, left-of, verdict}
 use Rattle.model.specs.Clock.{next-hand, passed-recent, seek-victim}
 use Rattle.model.specs.Listing.{list-record, listing, live-count, records}
 use Rattle.model.specs.Calls.{hit, hits, slot-of, some-live, vacant-place}
-use Rattle.model.specs.Examples.{AllHold, answers, cuts, edges, examples, late-lists, left-rows, one-hurt, refusals, row-edges, row-examples, row-numbers, seen-through, turns, two-tags}
+use Rattle.model.specs.Examples.{AllHold, answers, cuts, edges, examples, late-lists, left-rows, one-hurt, refusals, retired-rows, retired-words, row-edges, row-examples, row-numbers, seen-through, turns, two-tags}
 use Rattle.model.specs.Stores.{stores}
 use Rattle.model.specs.Row.{walk-to, row-left, row-says, row-clock, row-count, row-list, low-bytes}
 
 -- a refl for each row: where a definition says another thing, the first error is at the first row that is false
 pub all-hold : AllHold examples × AllHold refusals × AllHold turns × AllHold edges × AllHold cuts × AllHold late-lists × AllHold row-examples × AllHold row-edges
-    × AllHold (left-rows answers) × AllHold (left-rows (row-numbers 0))
-unfolding hash fnv fnv-step bytes tag-from odd-up spread other-bucket tag place damaged range first good-lengths good-slots good-counters good-items hits hit vacant-place some-live visits next-level hops first-free free-slot lowest climb is-fresh age left-of verdict next-hand seek-victim passed-recent slot-of list-record records live-count listing stores seen-through walk-to row-left row-says row-clock row-count row-list low-bytes
+    × AllHold (left-rows answers) × AllHold (left-rows (row-numbers 0)) × AllHold (retired-rows answers) × AllHold (retired-rows (row-numbers 0)) × AllHold retired-words
+unfolding hash fnv fnv-step bytes tag-from odd-up spread other-bucket tag place damaged range first good-lengths good-slots good-counters good-items hits hit vacant-place some-live visits next-level hops first-free free-slot lowest climb is-fresh left-of verdict next-hand seek-victim passed-recent slot-of list-record records live-count listing stores seen-through walk-to row-left row-says row-clock row-count row-list low-bytes
 all-hold = (
   (refl, (refl, (refl, (refl, (refl, (refl, (refl, (refl, (refl, (refl, (refl, (refl, (refl, (refl, (refl, tt))))))))))))))),
   (refl, (refl, (refl, (refl, (refl, (refl, (refl, (refl, (refl, (refl, (refl, tt))))))))))),
   (refl, (refl, (refl, (refl, (refl, (refl, (refl, (refl, (refl, tt))))))))),
-  (refl, (refl, (refl, (refl, (refl, (refl, (refl, (refl, (refl, (refl, (refl, (refl, (refl, (refl, (refl, tt))))))))))))))),
+  (refl, (refl, (refl, (refl, (refl, (refl, (refl, (refl, (refl, (refl, (refl, (refl, (refl, tt))))))))))))),
   (refl, (refl, (refl, (refl, (refl, (refl, (refl, (refl, (refl, (refl, (refl, tt))))))))))),
-  (refl, (refl, (refl, (refl, (refl, (refl, (refl, (refl, (refl, (refl, (refl, (refl, tt)))))))))))),
+  (refl, (refl, (refl, (refl, (refl, (refl, (refl, (refl, (refl, tt))))))))),
   (refl, (refl, (refl, (refl, (refl, (refl, (refl, (refl, tt)))))))),
-  (refl, (refl, (refl, (refl, (refl, (refl, (refl, (refl, (refl, (refl, (refl, (refl, (refl, (refl, (refl, (refl, (refl, tt))))))))))))))))),
-  (refl, (refl, (refl, (refl, (refl, (refl, (refl, (refl, (refl, (refl, (refl, (refl, (refl, tt))))))))))))),
-  (refl, (refl, (refl, (refl, (refl, (refl, (refl, (refl, (refl, (refl, (refl, (refl, (refl, tt))))))))))))),
+  (refl, (refl, (refl, (refl, (refl, (refl, (refl, (refl, (refl, (refl, (refl, (refl, (refl, (refl, tt)))))))))))))),
+  (refl, (refl, (refl, (refl, (refl, (refl, (refl, (refl, (refl, (refl, (refl, tt))))))))))),
+  (refl, (refl, (refl, (refl, (refl, (refl, (refl, (refl, (refl, (refl, (refl, tt))))))))))),
+  (refl, (refl, (refl, (refl, (refl, (refl, (refl, (refl, (refl, (refl, (refl, tt))))))))))),
+  (refl, (refl, (refl, (refl, (refl, (refl, (refl, (refl, (refl, (refl, (refl, tt))))))))))),
+  (refl, (refl, (refl, (refl, tt)))),
 )
 
 -- N = 4: no entry of tag 2 goes from bucket 0 to bucket 2; and a table with an odd counter isn't well-formed

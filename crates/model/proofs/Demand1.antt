@@ -13,7 +13,7 @@ use Rattle.model.specs.Memory.{Mem, animal, permission, stamp}
 use Rattle.model.specs.Shape.{Shape, right-lengths, shape-of, Ways}
 use Rattle.model.specs.Stores.{stores}
 use Rattle.model.specs.Answers.{Answer, absent, ahead, at-place, fresh, Listed, refusal-numbers, paper, listed, old, refused, started}
-use Rattle.model.specs.Age.{bad-time, is-fresh, judge, late, time-left, verdict, bad-grant}
+use Rattle.model.specs.Age.{bad-time, is-fresh, judge, late, verdict, bad-grant}
 use Rattle.model.specs.Clock.{Victim, victim}
 use Rattle.model.specs.Listing.{listing, live-count}
 use Rattle.model.specs.Calls.{Outcome, asked, busy, call, delete-at, enter-at, evict-at, evict-slot, find-at, held, hit, home-damage, refuse}
@@ -23,6 +23,7 @@ use Rattle.model.specs.AnyTable.{Table, Write, make-all}
 use Rattle.model.specs.Demands.{Demand1}
 use Rattle.model.specs.Ours.{ours, traced, wipe}
 use Rattle.model.specs.declared.Grant.{Grant}
+use Rattle.model.proofs.Verdict.{of-verdict}
 use Rattle.model.proofs.ListLaws.{true-false, bool}
 use Rattle.model.specs.Calling.{Call, Event, make-fresh, read, did, serve, find, set-animal, delete, evict, write-list}
 use mathlib.Core.Logic.{dite}
@@ -53,15 +54,8 @@ told : (o : Outcome) → is-refusal (o .answer) ≡ false → Clean o
 told o f n e = true-false (ap is-refusal e) f
 
 pub judged : (l : List ℕ) (limit now : ℕ) (o : Option ℕ) → is-refusal (judge l limit now o) ≡ false
-unfolding verdict
 judged l limit now none = refl
-judged l limit now (some p) = go (is-fresh limit now (stamp l p)) (ltb now (stamp l p))
-  where
-    go : (b c : Bool)
-        → is-refusal (choose b (fresh (permission l p % 2 ^ 32) (time-left limit now (stamp l p))) (choose c ahead (old (time-left limit now (stamp l p))))) ≡ false
-    go true c = refl
-    go false true = refl
-    go false false = refl
+judged l limit now (some p) = of-verdict limit now (permission l p) (stamp l p) (λ a. is-refusal a ≡ false) (λ z. refl) (λ z. refl) refl
 
 module _ (Y : Shape) (m : Mem) where
   asks : (x : ℕ) (bad : Bool) (o : Outcome) → Clean o → Clean (asked Y m x bad o)

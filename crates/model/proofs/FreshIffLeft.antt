@@ -1,5 +1,5 @@
 -- On any lent memory: read and serve say fresh exactly if what is left is not negative. Assumes nothing.
-use Prim.Native.Nat.{ℕ, _-_, _%_, _^_, _<_, _≤_}
+use Prim.Native.Nat.{ℕ, _+_, _-_, _%_, _^_, _<_, _≤_}
 use native.Mathlib.Omega.{arith}
 use native.Mathlib.Decide.{ℕ-discrete, decLe, decLt}
 use mathlib.Core.Path.{_≡_, refl, sym, subst, _∙_}
@@ -15,13 +15,13 @@ use Rattle.model.specs.Memory.{Mem, permission, stamp}
 use Rattle.model.specs.Shape.{Shape, Ways, right-lengths, shape-of}
 use Rattle.model.specs.Answers.{Answer, absent, ahead, fresh, old, paper, refused}
 use Rattle.model.specs.Calling.{read, serve}
-use Rattle.model.specs.Age.{bad-time, judge, left-of, standing-mark, time-left, verdict}
+use Rattle.model.specs.Age.{bad-time, judge, least-left, left-of, retired-mark, verdict}
 use Rattle.model.specs.Calls.{busy, call, held, home-damage, refuse, tell}
 use Rattle.model.specs.Left.{FreshIffLeft, TellsTime, Timely}
 use Rattle.model.specs.Ours.{ours}
 use Rattle.model.proofs.ListLaws.{true-false}
-use Rattle.model.proofs.Left.{bounds, negative, not-negative, whole}
-use Rattle.model.proofs.Verdict.{dated-left, says-ahead, says-old, says-standing, says-young, standing-left}
+use Rattle.model.proofs.Left.{bounds, far, negative, not-negative}
+use Rattle.model.proofs.Verdict.{says-ahead, says-old, says-retired, says-young}
 use Rattle.model.proofs.Runs.{serve-reads}
 
 -- an answer without a number
@@ -46,20 +46,18 @@ module _ (limit : ℕ) where
   -- whatever the permission and its stamp
   pub verdict-timely : (now v s : ℕ) → TellsTime limit (verdict limit now v s)
   verdict-timely now v s =
-      dite (ℕ-discrete s standing-mark)
-      (λ e. said (says-standing limit now v s e) (fresh-of 0 (standing-left limit now s e ∙ sym (whole limit)) (omega arith)))
+      dite (ℕ-discrete s retired-mark) (λ e. said (says-retired limit now v s e) (subst (λ (z : ℤ). TellsTime limit (old z)) far-off (told-old (limit + 2 ^ 62) (omega arith))))
       λ ne. dite (decLt now s) (λ l. said (says-ahead limit now v s ne l) (untold limit ahead refl))
       λ l. let le : s ≤ now = omega arith in
-      let z = dated-left limit now s ne in
-      dite (decLe (now - s) limit) (λ k. said (says-young limit now v s le k) (fresh-of (now - s) z k))
-      λ k. let lt : limit < now - s = omega arith in
-      said (says-old limit now v s ne le lt) (subst (λ (z : ℤ). TellsTime limit (old z)) (sym z) (told-old (now - s) lt))
+      dite (decLe (now - s) limit) (λ k. said (says-young limit now v s ne le k) (told-fresh (v % 2 ^ 32) (now - s) k))
+      λ k. let lt : limit < now - s = omega arith in said (says-old limit now v s ne le lt) (told-old (now - s) lt)
     where
       said : {a : Answer} → a ≡ verdict limit now v s → TellsTime limit a → TellsTime limit (verdict limit now v s)
       said e t = subst (TellsTime limit) e t
 
-      fresh-of : (a : ℕ) → time-left limit now s ≡ left-of limit a → a ≤ limit → TellsTime limit (fresh (v % 2 ^ 32) (time-left limit now s))
-      fresh-of a e h = subst (λ (z : ℤ). TellsTime limit (fresh (v % 2 ^ 32) z)) (sym e) (told-fresh (v % 2 ^ 32) a h)
+      -- a retired one tells what an age far beyond the limit would
+      far-off : left-of limit (limit + 2 ^ 62) ≡ least-left
+      far-off = far limit (limit + 2 ^ 62) (omega arith)
 
   -- whatever place was found
   pub judge-timely : (l : List ℕ) (now : ℕ) (o : Option ℕ) → TellsTime limit (judge l limit now o)

@@ -10,13 +10,13 @@ use mathlib.Core.List.{List}
 use lib.ListN.{length, set, length-set, List·getD-eq-default}
 use lib.Seq.{getD-set-same, getD-set-other}
 use lib.Dec.{eqb, ltb}
-use borrow.Author.Tests.{eqb-false, le-ltb, lt-ltb, ltb-false, ltb-true, ne-eqb}
+use borrow.Author.Tests.{eq-eqb, eqb-false, le-ltb, lt-ltb, ltb-false, ltb-true, ne-eqb}
 use Rattle.model.specs.Choice.{choose}
 use Rattle.model.specs.Memory.{Mem, stamp}
 use Rattle.model.specs.Shape.{Shape, Ways, counter-of, right-lengths, shape-of}
 use Rattle.model.specs.Calling.{set-animal}
 use Rattle.model.specs.Answers.{refused, stored}
-use Rattle.model.specs.Age.{bad-grant, late, no-minute, stamp-of, standing-mark}
+use Rattle.model.specs.Age.{bad-grant, late, no-minute, retired-mark}
 use Rattle.model.specs.Calls.{Outcome, asked, busy, enter-at, entered, held, home-damage, refuse, search-damage, set-at, stopped, updated, vacant-place, visited}
 use Rattle.model.specs.Demands.{GoodInputs}
 use Rattle.model.specs.Late.{Dated, ItsTurn, LateRefused, StampsRise}
@@ -33,7 +33,7 @@ pub good-grant : {g : Grant} → GoodInputs g → bad-grant g ≡ false
 good-grant {g} good = good-minutes g (good .timely) (good .issued)
 
 -- and only they do
-minutes-good : (g : Grant) → bad-grant g ≡ false → (g .minute ≢ no-minute) × (g .issued ≤ g .minute)
+pub minutes-good : (g : Grant) → bad-grant g ≡ false → (g .minute ≢ no-minute) × (g .issued ≤ g .minute)
 minutes-good g e =
     let n = neither (eqb (g .minute) no-minute) (ltb (g .minute) (g .issued)) e in
     (eqb-false (g .minute) no-minute (n .0), ltb-false (g .minute) (g .issued) (n .1))
@@ -44,17 +44,20 @@ minutes-good g e =
 
 module _ (s : ℕ) (g : Grant) where
   -- a late list is what it is said to be
-  late-only : late s g ≡ true → (g .issued < s) × (s ≢ standing-mark) × (g .standing ≡ false)
-  late-only e = let t = three (ltb (g .issued) s) (eqb s standing-mark) (g .standing) e in (ltb-true (g .issued) s (t .0), eqb-false s standing-mark (t .1), t .2)
+  late-only : late s g ≡ true → (g .issued < s) × (s ≢ retired-mark)
+  late-only e = let t = two (ltb (g .issued) s) (eqb s retired-mark) e in (ltb-true (g .issued) s (t .0), eqb-false s retired-mark (t .1))
     where
-      three : (a b c : Bool) → (a && (not b && not c)) ≡ true → (a ≡ true) × (b ≡ false) × (c ≡ false)
-      three true false false e = (refl, refl, refl)
-      three true false true e = true-false {b = true} refl (sym e)
-      three true true c e = true-false {b = true} refl (sym e)
-      three false b c e = true-false {b = true} refl (sym e)
+      two : (a b : Bool) → (a && not b) ≡ true → (a ≡ true) × (b ≡ false)
+      two true false e = (refl, refl)
+      two true true e = true-false {b = true} refl (sym e)
+      two false b e = true-false {b = true} refl (sym e)
 
-  late-if : g .issued < s → s ≢ standing-mark → g .standing ≡ false → late s g ≡ true
-  late-if l n d = rw (lt-ltb (g .issued) s l, ne-eqb s standing-mark n, d)
+  late-if : g .issued < s → s ≢ retired-mark → late s g ≡ true
+  late-if l n = rw (lt-ltb (g .issued) s l, ne-eqb s retired-mark n)
+
+  -- and no list is late for a retired entry
+  pub never-late : s ≡ retired-mark → late s g ≡ false
+  never-late e = bool (λ b. (b && not (eqb s retired-mark)) ≡ false) (ltb (g .issued) s) (λ _. rw (eq-eqb s retired-mark e)) λ _. refl
 
 module _ (W : Ways) (m : Mem) (g : Grant) where
   abbrev Y : Shape
@@ -89,7 +92,7 @@ module _ (W : Ways) (m : Mem) (g : Grant) where
   turned : ((k : ℕ) → k < 9 → lent-call W m (set-animal g) .answer ≢ refused k) → ItsTurn W m g × (lent-call W m (set-animal g) ≡ rest)
   turned n = ⊎-elim (λ (k, h, e). absurd (n k h (ap (λ (o : Outcome). o .answer) e))) (λ t. t) sorted
 
-  in-turn : ItsTurn W m g → lent-call W m (set-animal g) ≡ rest
+  pub in-turn : ItsTurn W m g → lent-call W m (set-animal g) ≡ rest
   in-turn t = rw (t .lengths, ne-eqb x 0 (t .real), good-minutes g (t .timely) (t .issued), t .calm, t .sound)
 
   -- 11 is given to a held animal only
@@ -107,14 +110,14 @@ module _ (W : Ways) (m : Mem) (g : Grant) where
   held-late (some p) h e =
       bool (λ b. late (stamp (m .items) p) g ≡ b → choose b (refuse 11) (updated (counter-of Y x) p g) .answer ≡ refused 11
       → (p : ℕ) × Dated W m g p × (g .issued < stamp (m .items) p)) (late (stamp (m .items) p) g)
-      (λ t q e. let k = late-only (stamp (m .items) p) g q in (p, record { held-at = h; entry = k .1; list = k .2 }, k .0))
+      (λ t q e. let k = late-only (stamp (m .items) p) g q in (p, record { held-at = h; entry = k .1 }, k .0))
       (λ t q e. let z : _≡_ {A = ℕ} 0 1 = cc in absurd (omega arith)) refl e
 
   pub late-refused : LateRefused W m g
   late-refused = (
     λ e. let t = turned (λ k h f. let z : 11 ≡ k = cc in absurd (omega arith)) in
         (t .0, held-late (held Y m x) refl (sym (ap (λ (o : Outcome). o .answer) (t .1)) ∙ e)),
-    λ (t, (p, d, l)). ap (λ (o : Outcome). o .answer) (in-turn t) ∙ rw (d .held-at, late-if (stamp (m .items) p) g l (d .entry) (d .list)),
+    λ (t, (p, d, l)). ap (λ (o : Outcome). o .answer) (in-turn t) ∙ rw (d .held-at, late-if (stamp (m .items) p) g l (d .entry)),
   )
 
   -- the stamp of a place after an update
@@ -132,11 +135,11 @@ module _ (W : Ways) (m : Mem) (g : Grant) where
       bool (λ b. late s g ≡ b → lent-call W m (set-animal g) ≡ choose b (refuse 11) (updated (counter-of Y x) p g)
       → s ≤ stamp (lent-after W m (set-animal g) .items) p) (late s g)
       (λ u q f. let r : stored v n ≡ refused 11 = sym e ∙ ap (λ (o : Outcome). o .answer) f in let z : _≡_ {A = ℕ} 0 1 = cc in absurd (omega arith))
-      (λ u q f. rw f (⊎-elim (λ r. rw r (in-order p d q)) (λ z. omega arith) (renewed (m .items) p (g .permission) (stamp-of g)))) refl
+      (λ u q f. rw f (⊎-elim (λ r. rw r (in-order p d q)) (λ z. omega arith) (renewed (m .items) p (g .permission) (g .issued)))) refl
       (t .1 ∙ ap (set-at Y m g) (d .held-at))
     where
       -- a list that is not late is issued at the held stamp or after it
-      in-order : (p : ℕ) → Dated W m g p → late (stamp (m .items) p) g ≡ false → stamp (m .items) p ≤ stamp-of g
+      in-order : (p : ℕ) → Dated W m g p → late (stamp (m .items) p) g ≡ false → stamp (m .items) p ≤ g .issued
       in-order p d q =
-          dite (decLt (g .issued) (stamp (m .items) p)) (λ l. true-false (late-if (stamp (m .items) p) g l (d .entry) (d .list)) q)
-          λ l. rw (d .list) (omega arith)
+          dite (decLt (g .issued) (stamp (m .items) p)) (λ l. true-false (late-if (stamp (m .items) p) g l (d .entry)) q)
+          λ l. omega arith

@@ -9,8 +9,8 @@ use lib.IntN.{ℤ, pos, negℤ, _-ℤ_}
 use lib.Signed.{_≤ℤ_, _<ℤ_}
 use lib.Dec.{leb→le, ltb→lt, le→leb}
 use borrow.Author.Tests.{le-leb, le-ltb, lt-leb, lt-ltb}
-use Rattle.model.specs.Age.{left-of}
-use Rattle.model.specs.Left.{LeftIs, LeftLeast, least-left, limit-minus-age}
+use Rattle.model.specs.Age.{least-left, left-of}
+use Rattle.model.specs.Left.{LeftIs, LeftLeast, limit-minus-age}
 
 -- a difference of two numbers, by which is the larger
 pub minus-small : (n k : ℕ) → k ≤ n → pos n -ℤ pos k ≡ pos (n - k)
@@ -94,7 +94,3 @@ bounds limit a =
     λ h. let k : limit < a = omega arith in
     let n = min (a - limit) (2 ^ 62) in
     subst (λ (z : ℤ). (least-left ≤ℤ z) × (z ≤ℤ pos limit)) (sym (overdue limit a k)) (above-least n (min-le-right (a - limit) (2 ^ 62)), below-limit limit n)
-
--- standing: the whole limit
-pub whole : (limit : ℕ) → left-of limit 0 ≡ pos limit
-whole limit = let e : limit - 0 ≡ limit = omega arith in within limit 0 (omega arith) ∙ ap pos e

@@ -47,5 +47,6 @@ pub mod Never
 pub mod FreshAnywhere
 pub mod FreshIffLeft
 pub mod FromIssue
+pub mod Retired
 pub mod Linked
 pub mod Theorems

@@ -15,15 +15,15 @@ use borrow.Author.Tests.{lt-ltb, le-ltb, eq-eqb, ne-eqb}
 use Rattle.model.specs.Choice.{any, choose, first, range, there}
 use Rattle.model.specs.Memory.{animal, live, permission, stamp}
 use Rattle.model.specs.Hash.{bytes}
-use Rattle.model.specs.Answers.{ahead, fresh, old, says-fresh}
-use Rattle.model.specs.Age.{bad-grant, bad-time, is-fresh, late, left-of, time-left, verdict, standing-mark, no-minute}
+use Rattle.model.specs.Answers.{Answer, ahead, fresh, old, says-fresh}
+use Rattle.model.specs.Age.{bad-grant, bad-time, is-fresh, late, least-left, left-of, no-minute, retired-mark, verdict}
 use Rattle.model.specs.Listing.{list-record, live-count, records}
 use Rattle.model.specs.Row.{low-bytes, row-bad-grant, row-bad-time, row-count, row-late, row-left, row-list, row-says}
-use Rattle.model.specs.Left.{least-left, limit-minus-age}
+use Rattle.model.specs.Left.{limit-minus-age}
 use Rattle.model.specs.declared.Grant.{Grant}
 use Rattle.model.proofs.ListLaws.{bool}
 use Rattle.model.proofs.Left.{left-is, left-least, minus-small}
-use Rattle.model.proofs.Verdict.{dated-left, says-ahead, says-old, says-standing, says-young, standing-left}
+use Rattle.model.proofs.Verdict.{says-ahead, says-old, says-retired, says-young}
 
 -- how long is left, with a sign or by cases
 pub left-signed : (limit now s : ℕ) → s ≤ now → left-of limit (now - s) ≡ row-left limit now s
@@ -37,15 +37,18 @@ left-signed limit now s le =
 pub says-is : (limit now v s : ℕ) → v < 2 ^ 32 → verdict limit now v s ≡ row-says limit now v s
 unfolding row-says
 says-is limit now v s h =
-    dite (ℕ-discrete s standing-mark)
-    (λ e. sym (says-standing limit now v s e) ∙ rw (eq-eqb s standing-mark e, mod-eq-of-lt h, standing-left limit now s e))
-    λ ne. dite (decLt now s) (λ l. sym (says-ahead limit now v s ne l) ∙ rw (ne-eqb s standing-mark ne, lt-ltb now s l))
+    dite (ℕ-discrete s retired-mark) (λ e. sym (says-retired limit now v s e) ∙ rw (eq-eqb s retired-mark e))
+    λ ne. dite (decLt now s) (λ l. sym (says-ahead limit now v s ne l) ∙ rw (ne-eqb s retired-mark ne, lt-ltb now s l))
     λ l. let le : s ≤ now = omega arith in
-    let z : time-left limit now s ≡ row-left limit now s = dated-left limit now s ne ∙ left-signed limit now s le in
+    let z = left-signed limit now s le in
     dite (decLe (now - s) limit)
-    (λ k. sym (says-young limit now v s le k) ∙ rw (ne-eqb s standing-mark ne, le-ltb now s le, le-ltb limit (now - s) k, mod-eq-of-lt h, z))
+    (λ k. sym (says-young limit now v s ne le k) ∙ rw (ne-eqb s retired-mark ne, le-ltb now s le, le-ltb limit (now - s) k, mod-eq-of-lt h, z))
     λ k. let lt : limit < now - s = omega arith in
-    sym (says-old limit now v s ne le lt) ∙ rw (ne-eqb s standing-mark ne, le-ltb now s le, lt-ltb limit (now - s) lt, z)
+    sym (says-old limit now v s ne le lt) ∙ rw (ne-eqb s retired-mark ne, le-ltb now s le, lt-ltb limit (now - s) lt, z)
+
+-- a verdict by its tests: fresh, retired, ahead
+abbrev told : Bool → Bool → Bool → ℕ → ℤ → Answer
+told b c d v z = choose b (fresh v z) (choose c (old least-left) (choose d ahead (old z)))
 
 -- a permission word above its range is judged modulo 2^32
 pub says-mod : (limit now v s : ℕ) → verdict limit now v s ≡ row-says limit now (v % 2 ^ 32) s
@@ -53,18 +56,18 @@ unfolding verdict
 says-mod limit now v s = sym same ∙ says-is limit now (v % 2 ^ 32) s (mod-lt v (omega arith))
   where
     same : verdict limit now (v % 2 ^ 32) s ≡ verdict limit now v s
-    same =
-        ap (λ u. choose (is-fresh limit now s) (fresh u (time-left limit now s)) (choose (ltb now s) ahead (old (time-left limit now s)))) (mod-mod v (2 ^ 32))
+    same = ap (λ u. told (is-fresh limit now s) (eqb s retired-mark) (ltb now s) u (left-of limit (now - s))) (mod-mod v (2 ^ 32))
 
-fresh-told : (b c : Bool) (v : ℕ) (z : ℤ) → says-fresh (choose b (fresh v z) (choose c ahead (old z))) ≡ b
-fresh-told true c v z = refl
-fresh-told false true v z = refl
-fresh-told false false v z = refl
+fresh-told : (b c d : Bool) (v : ℕ) (z : ℤ) → says-fresh (told b c d v z) ≡ b
+fresh-told true c d v z = refl
+fresh-told false true d v z = refl
+fresh-told false false true v z = refl
+fresh-told false false false v z = refl
 
 -- a verdict says fresh exactly if the stamp is in time
 pub fresh-says : (limit now v s : ℕ) → says-fresh (verdict limit now v s) ≡ is-fresh limit now s
 unfolding verdict
-fresh-says limit now v s = fresh-told (is-fresh limit now s) (ltb now s) (v % 2 ^ 32) (time-left limit now s)
+fresh-says limit now v s = fresh-told (is-fresh limit now s) (eqb s retired-mark) (ltb now s) (v % 2 ^ 32) (left-of limit (now - s))
 
 pub fresh-is : (limit now v s : ℕ) → v < 2 ^ 32 → is-fresh limit now s ≡ says-fresh (row-says limit now v s)
 fresh-is limit now v s h = sym (fresh-says limit now v s) ∙ ap says-fresh (says-is limit now v s h)
@@ -81,16 +84,13 @@ pub grant-is : (M : ℕ) (g : Grant) → bad-grant g ≡ row-bad-grant M g
 grant-is M g = or-is (eqb (g .minute) no-minute) (ltb (g .minute) (g .issued))
 
 pub late-is : (M s : ℕ) (g : Grant) → late s g ≡ row-late M s g
-late-is M s g = go (ltb (g .issued) s) (eqb s standing-mark) (g .standing)
+late-is M s g = go (ltb (g .issued) s) (eqb s retired-mark)
   where
-    go : (a b c : Bool) → (a && (not b && not c)) ≡ choose c false (choose b false a)
-    go true true true = refl
-    go true true false = refl
-    go true false true = refl
-    go true false false = refl
-    go false b true = refl
-    go false true false = refl
-    go false false false = refl
+    go : (a b : Bool) → (a && not b) ≡ choose b false a
+    go true true = refl
+    go true false = refl
+    go false true = refl
+    go false false = refl
 
 -- the list
 pub bytes-is : (n x i : ℕ) → bytes n (x / 256 ^ i) ≡ low-bytes x i n

@@ -15,7 +15,7 @@ use Rattle.model.specs.Choice.{choose, range}
 use Rattle.model.specs.Memory.{Mem, animal, permission, stamp}
 use Rattle.model.specs.Shape.{Shape, fresh-memory}
 use Rattle.model.specs.Answers.{Answer, absent, ahead, fresh, old, refused, says-fresh}
-use Rattle.model.specs.Age.{bad-time, judge, standing-mark}
+use Rattle.model.specs.Age.{bad-time, judge, least-left, retired-mark}
 use Rattle.model.specs.Calls.{Outcome, after-call, asked, busy, call, cut-call, held, home-damage, refuse, serve-at, tell}
 use Rattle.model.specs.Row.{row-bad-time, row-call, row-left, row-read, row-says, stay, walk-to}
 use Rattle.model.specs.WellFormed.{WellFormed}
@@ -83,17 +83,15 @@ module _ (l : List ℕ) (x limit now v : ℕ) (z : ℤ) where
   pub in-time : (u s : ℕ) → row-says limit now u s ≡ fresh v z → (u ≡ v) × InTime limit now z s
   unfolding row-says
   in-time u s e =
-      dite (ℕ-discrete s standing-mark)
-      (λ q. let f : fresh u (pos limit) ≡ fresh v z = rw (eq-eqb s standing-mark q) at e in
-      let g : pos limit ≡ z = cc in (cc, inl (q, sym g)))
+      dite (ℕ-discrete s retired-mark) (λ q. not-fresh (old least-left) refl (rw (eq-eqb s retired-mark q) at e))
       λ nq. dite (decLt now s)
-      (λ q. not-fresh ahead refl (rw (ne-eqb s standing-mark nq, lt-ltb now s q) at e))
+      (λ q. not-fresh ahead refl (rw (ne-eqb s retired-mark nq, lt-ltb now s q) at e))
       λ q. let le : s ≤ now = omega arith in
       dite (decLt limit (now - s))
-      (λ k. not-fresh (old (row-left limit now s)) refl (rw (ne-eqb s standing-mark nq, le-ltb now s le, lt-ltb limit (now - s) k) at e))
+      (λ k. not-fresh (old (row-left limit now s)) refl (rw (ne-eqb s retired-mark nq, le-ltb now s le, lt-ltb limit (now - s) k) at e))
       λ k. let le′ : now - s ≤ limit = omega arith in
-      let f : fresh u (row-left limit now s) ≡ fresh v z = rw (ne-eqb s standing-mark nq, le-ltb now s le, le-ltb limit (now - s) le′) at e in
-      let g : row-left limit now s ≡ z = cc in (cc, inr (le, le′, sym g ∙ sym (left-signed limit now s le) ∙ within limit (now - s) le′))
+      let f : fresh u (row-left limit now s) ≡ fresh v z = rw (ne-eqb s retired-mark nq, le-ltb now s le, le-ltb limit (now - s) le′) at e in
+      let g : row-left limit now s ≡ z = cc in (cc, (le, le′, sym g ∙ sym (left-signed limit now s le) ∙ within limit (now - s) le′))
 
   found-fresh : (M : ℕ) → x ≢ 0 → {o : Option ℕ} → First (λ p. eqb (animal l p) x) (range 0 M) o
       → row-read M l limit now o ≡ fresh v z → (p : ℕ) × (p < M) × Allowed l x limit now v z p

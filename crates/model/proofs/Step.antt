@@ -13,11 +13,12 @@ use Rattle.model.specs.Memory.{Mem, animal, permission, place, stamp, ta
 use Rattle.model.specs.Shape.{Shape, counter-of, homes}
 use Rattle.model.specs.Stores.{recency, remove, wholes}
 use Rattle.model.specs.Answers.{Answer, absent, ahead, at-place, fresh, listed, old, refused}
-use Rattle.model.specs.Age.{is-fresh, judge, time-left, verdict}
+use Rattle.model.specs.Age.{is-fresh, judge, verdict}
 use Rattle.model.specs.Listing.{listing, live-count, records}
 use Rattle.model.specs.Calls.{Outcome, asked, delete-at, find-at, held, hits, place-at, serve-at, tell}
 use Rattle.model.specs.Row.{Row, note, plain, row-asked, row-call, row-count, row-delete, row-find, row-list, row-read, beyond, row-serve, stay, walk-to}
 use Rattle.model.specs.WellFormed.{WellFormed}
+use Rattle.model.proofs.Verdict.{of-verdict}
 use Rattle.model.proofs.ShapeLaws.{Lawful, tagged-word}
 use Rattle.model.proofs.ListLaws.{First, bool, both-is, found, missing, walk-is}
 use Rattle.model.proofs.Calm.{calm, quick}
@@ -35,14 +36,7 @@ pub record Step (Y : Shape) (who : Answer → ℕ) (m : Mem) (o : Outcome) (r : 
 
 -- the search counts play no part in what a read says
 plain-verdict : (limit now v s : ℕ) → plain (verdict limit now v s) ≡ verdict limit now v s
-unfolding verdict
-plain-verdict limit now v s = go (is-fresh limit now s) (ltb now s)
-  where
-    go : (b c : Bool) → plain (choose b (fresh (v % 2 ^ 32) (time-left limit now s)) (choose c ahead (old (time-left limit now s))))
-        ≡ choose b (fresh (v % 2 ^ 32) (time-left limit now s)) (choose c ahead (old (time-left limit now s)))
-    go true c = refl
-    go false true = refl
-    go false false = refl
+plain-verdict limit now v s = of-verdict limit now v s (λ a. plain a ≡ a) (λ z. refl) (λ z. refl) refl
 
 module _ (Y : Shape) (who : Answer → ℕ) (m : Mem) where
   abbrev l : List ℕ

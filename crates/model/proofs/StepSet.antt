@@ -30,7 +30,7 @@ use Rattle.model.proofs.KeepBlocks.{Enters, Fits, keep, live-in}
 use Rattle.model.proofs.Cut.{Tale, done, last, quiet}
 use Rattle.model.proofs.Step.{Held, Step, both, still, walked}
 use Rattle.model.proofs.RowWords.{late-is}
-use Rattle.model.specs.Age.{late, stamp-of}
+use Rattle.model.specs.Age.{late}
 
 module _ (Y : Shape) (L : Lawful Y) where
   -- moves, and then what comes last
@@ -44,7 +44,7 @@ module _ (Y : Shape) (L : Lawful Y) where
       (moves-tale a ms (whole (move-block Y (m .slots) v) m) (keep Y L m g (move-block Y (m .slots) v) f) (run .1) rest k)
 
   moves-items : (q : Grant) (p i : ℕ) (T : List ℕ) (ms : List Move) (m : Mem)
-      → wholes (move-blocks Y T ms ++ (enter-block Y q p i ∷ [])) m .items ≡ fill (m .items) p (q .animal) (q .permission) (stamp-of q) 1
+      → wholes (move-blocks Y T ms ++ (enter-block Y q p i ∷ [])) m .items ≡ fill (m .items) p (q .animal) (q .permission) (q .issued) 1
   moves-items q p i T [] m = refl
   moves-items q p i T (w ∷ ms) m = moves-items q p i (moved T w) ms (whole (move-block Y T w) m)
 
@@ -129,8 +129,8 @@ module _ (Y : Shape) (L : Lawful Y) (m : Mem) (g : WellFormed Y m) (q : Grant) (
           (h p (range-in 0 (Y .places) (omega arith) (omega (arith, live-in Y g p (rw e nz)))))
   step-set (found {i = p} r t) =
       let e = eqb-true (animal (m .items) p) x t in
-      let f : Fits Y m (update (counter-of Y x) p (q .permission) (stamp-of q)) = (rw e nz, hv, ap (counter-of Y) (sym e)) in
+      let f : Fits Y m (update (counter-of Y x) p (q .permission) (q .issued)) = (rw e nz, hv, ap (counter-of Y) (sym e)) in
       subst (λ b. Step Y (λ a. x) m (set-at Y m q (some p)) (λ r. choose b (stay (m .items) (refused 11))
-      (record { answer = stored 0 0; words = renew (m .items) p (q .permission) (stamp-of q) }))) (late-is (Y .places) (stamp (m .items) p) q)
+      (record { answer = stored 0 0; words = renew (m .items) p (q .permission) (q .issued) }))) (late-is (Y .places) (stamp (m .items) p) q)
       (both Y (λ a. x) m (late (stamp (m .items) p) q) (λ z. still Y (λ a. x) m (refused 11) (refused 11) refl)
       λ z. record { tale = last f e; answer = refl; items = refl })

@@ -10,6 +10,7 @@ use Rattle.model.proofs.Late as late
 use Rattle.model.proofs.Left as left
 use Rattle.model.proofs.Verdict as verdict
 use Rattle.model.proofs.FreshIffLeft as iff
+use Rattle.model.proofs.Retired as retired
 use Rattle.model.proofs.Linked as linked
 use Rattle.model.proofs.Paper as paper
 use Rattle.model.proofs.AsWritten as written
@@ -35,8 +36,12 @@ owed =
       left-least = left.left-least;
       held-tells = verdict.held-tells;
       ahead-tells-nothing = verdict.ahead-tells-nothing;
-      standing-whole = verdict.standing-whole;
       fresh-iff-left = iff.fresh-iff-left;
+      retired-reads = retired.retired-reads;
+      retired-unserved = retired.retired-unserved;
+      retired-replaced = retired.retired-replaced;
+      retired-then-dated = retired.retired-then-dated;
+      none-retired = retired.none-retired;
       leaves-lent = linked.leaves-lent four;
       cuts-lent = linked.cuts-lent four;
       fresh-lent = linked.fresh-lent four;

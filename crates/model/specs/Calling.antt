@@ -1,13 +1,12 @@
 -- The calls that the table offers, with what they take, and what is so of each. Assumes nothing.
 use Prim.Native.Nat.{ℕ, _^_, _<_}
-use mathlib.Core.Bool.{Bool}
 use mathlib.Core.List.{List, [], _∷_}
 use Rattle.model.specs.Answers.{Answer, victim-in}
 use Rattle.model.specs.declared.Grant.{Grant}
 
 -- what a set takes, in the order of a line
-abbrev pub grant : ℕ → ℕ → ℕ → ℕ → Bool → Grant
-grant x v issued now s = record { animal = x; permission = v; issued = issued; minute = now; standing = s }
+abbrev pub grant : ℕ → ℕ → ℕ → ℕ → Grant
+grant x v issued now = record { animal = x; permission = v; issued = issued; minute = now }
 
 pub data Call : Type 0 where
   read : (animal limit now : ℕ) → Call

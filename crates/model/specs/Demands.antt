@@ -13,7 +13,7 @@ use Rattle.model.specs.Moves.{Move, moved-by, Free, Run}
 use Rattle.model.specs.Visits.{sum-of-powers, visit-list}
 use Rattle.model.specs.Calling.{Call, read, serve, set-animal, Event, make-fresh, did, Typed, AllTyped, about, gone, HasCut}
 use Rattle.model.specs.Answers.{Answer, refused, fresh, stored, started, Listed}
-use Rattle.model.specs.Age.{no-minute, standing-mark}
+use Rattle.model.specs.Age.{no-minute}
 use Rattle.model.specs.Calls.{hits}
 use Rattle.model.specs.Row.{walk-to, row-event, row-late, row-says, plain, beyond}
 use Rattle.model.specs.declared.Grant.{Grant}
@@ -26,18 +26,18 @@ pub record Demand1 (T : Table) : Type 0 where
   pub unchanged : (m : Mem) (e : Event) (n : ℕ) → T .answer m e ≡ refused n → leaves T m e ≡ m
   pub uncut : (m : Mem) (e : Event) (n : ℕ) → T .answer m e ≡ refused n → (k : ℕ) → cut-at T k m e ≡ m
 
--- a stamp s is standing, and z, which is left, is the whole limit; or it is within the age limit, and z is the limit minus the age
+-- a stamp s is within the age limit, and z, which is left, is the limit minus the age
 abbrev pub InTime : ℕ → ℕ → ℤ → ℕ → Type 0
-InTime limit now z s = ((s ≡ standing-mark) × (z ≡ pos limit)) ⊎ ((s ≤ now) × (now - s ≤ limit) × (z ≡ pos (limit - (now - s))))
+InTime limit now z s = (s ≤ now) × (now - s ≤ limit) × (z ≡ pos (limit - (now - s)))
 
--- in the row l, place p holds animal x with permission v, and is standing or within the age limit, with z minutes left
+-- in the row l, place p holds animal x with permission v, within the age limit, with z minutes left
 pub record Allowed (l : List ℕ) (x limit now v : ℕ) (z : ℤ) (p : ℕ) : Type 0 where
   pub real : x ≢ 0
   pub animal-is : animal l p ≡ x
   pub permission-is : permission l p ≡ v
   pub in-time : InTime limit now z (stamp l p)
 
--- in any item words l, place p holds animal x with permission v modulo 2^32, and is standing or within the age limit, with z minutes left
+-- in any item words l, place p holds animal x with permission v modulo 2^32, within the age limit, with z minutes left
 pub record Holds (l : List ℕ) (x limit now v : ℕ) (z : ℤ) (p : ℕ) : Type 0 where
   pub real : x ≢ 0
   pub inside : 4 * p < length l
@@ -149,7 +149,7 @@ module _ (W : Ways) where
   abbrev pub SameWords : Table → Type 0
   SameWords T = (s : Story) → table T s .items ≡ row T s
 
-  -- fresh is said only of a held permission within the age limit, or a standing one
+  -- fresh is said only of a held permission within the age limit
   abbrev pub FreshOnly : Table → Type 0
   FreshOnly T = (s : Story) (x limit now v : ℕ) (z : ℤ)
       → (T .answer (table T s) (did (read x limit now)) ≡ fresh v z) ⊎ (T .answer (table T s) (did (serve x limit now)) ≡ fresh v z)
@@ -197,9 +197,8 @@ module _ (W : Ways) where
   NeverLost T = (s : Story) (c : Call) → Typed c → HasCut c → (x p : ℕ) → x ≢ 0 → walk-to (row T s) x (places s) 0 ≡ some p
       → x ≢ gone c (T .answer (table T s) (did c)) → (k : ℕ) → Stands (shape-in s) (cut-at T k (table T s) (did c)) x
 
-  -- Age runs from issue, wish 1's first words, of any table: after a set that was stored and isn't standing, whenever it came, a read
-  -- says what its permission and its minute of issue say
+  -- Age runs from issue, wish 1's first words, of any table: after a set that was stored, whenever it came, a read says what its permission and its minute of issue say
   abbrev pub AgeFromIssue : Table → Type 0
-  AgeFromIssue T = (s : Story) (g : Grant) → Typed (set-animal g) → g .standing ≡ false
+  AgeFromIssue T = (s : Story) (g : Grant) → Typed (set-animal g)
       → (v n : ℕ) → T .answer (table T s) (did (set-animal g)) ≡ stored v n → (limit now : ℕ) → limit ≤ 10080 → now ≢ no-minute
       → reads T (leaves T (table T s) (did (set-animal g))) (g .animal) limit now ≡ row-says limit now (g .permission) (g .issued)

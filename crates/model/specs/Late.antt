@@ -8,7 +8,7 @@ use Rattle.model.specs.Memory.{Mem, stamp}
 use Rattle.model.specs.Shape.{Ways, right-lengths, shape-of}
 use Rattle.model.specs.Calling.{set-animal}
 use Rattle.model.specs.Answers.{refused, stored}
-use Rattle.model.specs.Age.{no-minute, standing-mark}
+use Rattle.model.specs.Age.{no-minute, retired-mark}
 use Rattle.model.specs.Calls.{busy, held, home-damage}
 use Rattle.model.specs.Lent.{lent-after, lent-call}
 use Rattle.model.specs.declared.Grant.{Grant}
@@ -23,17 +23,16 @@ module _ (W : Ways) (m : Mem) (g : Grant) where
     pub calm : busy (shape-of W m) m (g .animal) ≡ false
     pub sound : home-damage (shape-of W m) m (g .animal) ≡ false
 
-  -- the animal is held in place p, and neither its entry nor the set is standing
+  -- the animal is held in place p, and its entry is not retired
   pub record Dated (p : ℕ) : Type 0 where
     pub held-at : held (shape-of W m) m (g .animal) ≡ some p
-    pub entry : stamp (m .items) p ≢ standing-mark
-    pub list : g .standing ≡ false
+    pub entry : stamp (m .items) p ≢ retired-mark
 
-  -- 11 is given exactly if its turn comes and the animal is held with a later stamp, neither standing
+  -- 11 is given exactly if its turn comes and the animal is held with a later stamp, not a retired one
   abbrev pub LateRefused : Type 0
   LateRefused = (lent-call W m (set-animal g) .answer ≡ refused 11) ↔ (ItsTurn × ((p : ℕ) × Dated p × (g .issued < stamp (m .items) p)))
 
-  -- a set that is stored over a held animal, neither standing, never lowers the stamp
+  -- a set that is stored over a held animal, not a retired entry, never lowers the stamp
   abbrev pub StampsRise : Type 0
   StampsRise = (p v n : ℕ) → Dated p → lent-call W m (set-animal g) .answer ≡ stored v n
       → stamp (m .items) p ≤ stamp (lent-after W m (set-animal g) .items) p

@@ -12,13 +12,14 @@ use Rattle.model.specs.Answers.{Answer, paper, refused}
 use Rattle.model.specs.Calling.{Call, did, evict, make-fresh}
 use Rattle.model.specs.Lent.{after-fresh, lent-after, lent-call, lent-cut}
 use Rattle.model.specs.Late.{LateRefused, StampsRise}
-use Rattle.model.specs.Left.{AheadTellsNothing, FreshIffLeft, HeldTells, LeftIs, LeftLeast, StandingWhole}
+use Rattle.model.specs.Left.{AheadTellsNothing, FreshIffLeft, HeldTells, LeftIs, LeftLeast}
+use Rattle.model.specs.Retired.{NoneRetired, RetiredReads, RetiredReplaced, RetiredThenDated, RetiredUnserved}
 use Rattle.model.specs.WellFormed.{WellFormed}
 use Rattle.model.specs.AnyTable.{cut-at, leaves}
 use Rattle.model.specs.Demands.{AgeFromIssue, Demand1, Demand2, Demand3, FreshAnywhere, NeverLost, Story, shape-in, table}
 use Rattle.model.specs.Ours.{gate, ours}
 use Rattle.model.specs.declared.Grant.{Grant}
-use Rattle.model.specs.Examples.{AllHold, answers, cuts, edges, examples, late-lists, left-rows, one-hurt, refusals, row-edges, row-examples, row-numbers, turns, two-tags}
+use Rattle.model.specs.Examples.{AllHold, answers, cuts, edges, examples, late-lists, left-rows, one-hurt, refusals, retired-rows, retired-words, row-edges, row-examples, row-numbers, turns, two-tags}
 
 pub record Owed : Type 0 where
   -- the order's three demands, of the gate's table; and of wish 13's
@@ -43,8 +44,13 @@ pub record Owed : Type 0 where
   pub left-least : LeftLeast
   pub held-tells : HeldTells
   pub ahead-tells-nothing : AheadTellsNothing
-  pub standing-whole : StandingWhole
   pub fresh-iff-left : (W : Ways) → FreshIffLeft (ours W)
+  -- wish 6: a retired entry reads as old, is not made recent and is replaced, on any memory; and from fresh on there is none
+  pub retired-reads : (W : Ways) → RetiredReads W (ours W)
+  pub retired-unserved : (W : Ways) → RetiredUnserved W (ours W)
+  pub retired-replaced : (W : Ways) → RetiredReplaced W (ours W)
+  pub retired-then-dated : (W : Ways) → RetiredThenDated W (ours W)
+  pub none-retired : (W : Ways) → NoneRetired W (ours W)
   -- what the code's contracts cite is what the demands speak of
   pub leaves-lent : (m : Mem) (c : Call) → leaves gate m (did c) ≡ lent-after four m c
   pub cuts-lent : (m : Mem) (c : Call) (k : ℕ) → cut-at gate k m (did c) ≡ lent-cut four k m c
@@ -53,7 +59,7 @@ pub record Owed : Type 0 where
   pub paper-injective : (a b : Answer) → paper a ≡ paper b → a ≡ b
   -- the definitions say what the document's examples say, and what its rules say at their edges and at every cut
   pub all-hold : AllHold examples × AllHold refusals × AllHold turns × AllHold edges × AllHold cuts × AllHold late-lists × AllHold row-examples × AllHold row-edges
-      × AllHold (left-rows answers) × AllHold (left-rows (row-numbers 0))
+      × AllHold (left-rows answers) × AllHold (left-rows (row-numbers 0)) × AllHold (retired-rows answers) × AllHold (retired-rows (row-numbers 0)) × AllHold retired-words
   pub not-legal : ¬ Legal (shape-of four two-tags .layout) (two-tags .slots) (record { from = 2; to = 8 })
   pub not-well : ¬ WellFormed (shape-of four (one-hurt 3)) (one-hurt 3)
   pub most-visits-are : (2 * sum-of-powers 4 4 ≡ 682) × (2 * sum-of-powers 8 3 ≡ 1170)

@@ -46,10 +46,10 @@ at-least z = choose (ltZ z (negℤ (pos (2 ^ 62)))) (negℤ (pos (2 ^ 62))) z
 unfoldable pub row-left : ℕ → ℕ → ℕ → ℤ
 row-left limit now s = at-least (pos limit -ℤ (pos now -ℤ pos s))
 
--- a permission v with stamp s: standing is fresh with the whole limit left; else ahead, or fresh, or old, by the age
+-- a permission v with stamp s: with the mark 2^64 - 1 it is old, with -2^62; else ahead, or old, or fresh, by the age
 unfoldable pub row-says : ℕ → ℕ → ℕ → ℕ → Answer
 row-says limit now v s =
-    choose (eqb s (2 ^ 64 - 1)) (fresh v (pos limit))
+    choose (eqb s (2 ^ 64 - 1)) (old (negℤ (pos (2 ^ 62))))
     (choose (ltb now s) ahead (choose (ltb limit (now - s)) (old (row-left limit now s)) (fresh v (row-left limit now s))))
 
 -- CLOCK as document 01 tells it. From the hand p on: skip a vacant place; store 0 in the recent word of a recent one and pass; take
@@ -119,25 +119,21 @@ module _ (M : ℕ) where
   abbrev pub row-bad-grant : Grant → Bool
   row-bad-grant g = choose (eqb (g .minute) (2 ^ 64 - 1)) true (ltb (g .minute) (g .issued))
 
-  -- the stamp of a set: standing, or the minute of issue
-  abbrev pub row-stamp : Grant → ℕ
-  row-stamp g = choose (g .standing) (2 ^ 64 - 1) (g .issued)
-
-  -- a late list: a standing one is never late, nor is any for a standing entry; else the held stamp s is later
+  -- a late list: none is for an entry with the mark; else the held stamp s is later
   abbrev pub row-late : ℕ → Grant → Bool
-  row-late s g = choose (g .standing) false (choose (eqb s (2 ^ 64 - 1)) false (ltb (g .issued) s))
+  row-late s g = choose (eqb s (2 ^ 64 - 1)) false (ltb (g .issued) s)
 
   -- set: a row can't know whether the table has room for a new entry, so it is told: `told` is 6 if it has none
   abbrev pub row-new : ℕ → List ℕ → Grant → Option ℕ → Row
   row-new told l g none = stay l (refused 5)
   row-new told l g (some p) =
       choose (eqb told 6) (stay l (refused 6))
-      (record { answer = stored 0 0; words = fill l p (g .animal) (g .permission) (row-stamp g) 1 })
+      (record { answer = stored 0 0; words = fill l p (g .animal) (g .permission) (g .issued) 1 })
 
   abbrev pub row-set : ℕ → List ℕ → Grant → Option ℕ → Row
   row-set told l g none = row-new told l g (walk-to l 0 M 0)
   row-set told l g (some p) =
-      choose (row-late (stamp l p) g) (stay l (refused 11)) (record { answer = stored 0 0; words = renew l p (g .permission) (row-stamp g) })
+      choose (row-late (stamp l p) g) (stay l (refused 11)) (record { answer = stored 0 0; words = renew l p (g .permission) (g .issued) })
 
   abbrev pub row-delete : List ℕ → Option ℕ → Row
   row-delete l none = stay l (refused 7)

@@ -7,7 +7,6 @@ pub struct Grant {
     pub permission: u32,
     pub issued: u64,
     pub minute: u64,
-    pub standing: bool,
 }
 
 // A move: the slot that it empties, the tag of the entry there, and the slot that the entry goes to.
