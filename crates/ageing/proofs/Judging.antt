@@ -3,30 +3,33 @@ use Prim.Native.Nat.{ℕ, _+_, _^_, _<_, _≤_, _-_, _%_}
 use native.Mathlib.Omega.{arith}
 use native.Mathlib.Decide.{ℕ-discrete, decLe}
 use mathlib.Core.Path.{_≡_, refl, sym, ap, ap₂, subst, _∙_}
-use mathlib.Core.Logic.{dite}
+use mathlib.Core.Logic.{_≢_, dite}
 use mathlib.Core.Bool.{Bool, true, false, _||_}
 use lib.IntN.{ℤ, pos, negsuc, _-ℤ_}
 use lib.Signed.{_≤ℤ_}
 use lib.Dec.{eqb, leb, leb→le, ltb}
-use borrow.Author.Tests.{lt-ltb, le-ltb, ltb-false, eq-eqb, ne-eqb, le-leb, lt-leb}
+use borrow.Author.Tests.{lt-ltb, le-ltb, ltb-false, eq-eqb, eqb-false, ne-eqb, le-leb, lt-leb}
 use mir.Syntax.{w64}
 use mir.Val.{toZ, ofZ, SFits}
 use mir.ValLaws.{toZ-pos, toZ-ofZ}
 use Rattle.model.specs.Answers.{fresh, old}
-use Rattle.model.specs.Age.{age, bad-grant, bad-time, left-of, no-minute, standing-mark, time-left, verdict}
-use Rattle.model.specs.Left.{least-left}
+use Rattle.model.specs.Age.{bad-grant, bad-time, least-left, left-of, no-minute, retired-mark, verdict}
 use Rattle.model.specs.declared.Grant.{Grant}
 use Rattle.model.proofs.ListLaws.{true-false}
 use Rattle.model.proofs.Left.{bounds, far, near}
-use Rattle.model.proofs.Verdict.{says-old, says-standing, says-young, standing-left}
+use Rattle.model.proofs.Verdict.{says-old, says-retired, says-young}
 
--- a limit that refusal 3 lets pass
-pub good-limit : (limit now : ℕ) → bad-time limit now ≡ false → limit ≤ 10080
-good-limit limit now e = by (ltb 10080 limit) (eqb now no-minute) (ltb-false 10080 limit) e
+-- a limit and a minute that refusal 3 lets pass
+good-time : (limit now : ℕ) → bad-time limit now ≡ false → (limit ≤ 10080) × (now ≢ no-minute)
+good-time limit now e = by (ltb 10080 limit) (eqb now no-minute) (ltb-false 10080 limit) (eqb-false now no-minute) e
   where
-    by : (b c : Bool) → (b ≡ false → limit ≤ 10080) → (b || c) ≡ false → limit ≤ 10080
-    by true c h e = true-false refl e
-    by false c h e = h refl
+    by : (b c : Bool) → (b ≡ false → limit ≤ 10080) → (c ≡ false → now ≢ no-minute) → (b || c) ≡ false → (limit ≤ 10080) × (now ≢ no-minute)
+    by true c h k e = true-false refl e
+    by false true h k e = true-false refl e
+    by false false h k e = (h refl, k refl)
+
+pub good-limit : (limit now : ℕ) → bad-time limit now ≡ false → limit ≤ 10080
+good-limit limit now e = good-time limit now e .0
 
 -- what is left fits the word
 left-small : (limit a : ℕ) → limit ≤ 10080 → SFits w64 (left-of limit a)
@@ -55,26 +58,24 @@ module _ (limit a : ℕ) (good : limit ≤ 10080) where
   pub left-far : limit + 4611686018427387904 ≤ a → negsuc 4611686018427387903 ≡ left-of limit a
   left-far h = sym (far limit a h)
 
--- the age of a stamp that is not later than now: where that is the mark, now is the same number, and the age is 0
-age-is : (now s : ℕ) → now < 2 ^ 64 → s ≤ now → now - s ≡ age now s
-unfolding age
-age-is now s fits le = dite (ℕ-discrete s standing-mark) (λ e. rw (eq-eqb s standing-mark e) (omega arith)) λ ne. rw (ne-eqb s standing-mark ne)
-
 -- the ways out of the judgement, as the code has their numbers
-module _ (limit now v s : ℕ) (good : limit ≤ 10080) where
-  pub judged-standing : s ≡ standing-mark → fresh (v % 2 ^ 32) (toZ w64 limit) ≡ verdict limit now v s
-  judged-standing e =
-      ap (fresh (v % 2 ^ 32)) (toZ-pos w64 limit (omega arith) ∙ sym (standing-left limit now s e)) ∙ says-standing limit now v s e
+module _ (limit now v s : ℕ) where
+  pub judged-retired : s ≡ retired-mark → old (negsuc 4611686018427387903) ≡ verdict limit now v s
+  judged-retired e = says-retired limit now v s e
 
-  module _ (fits : now < 2 ^ 64) (le : s ≤ now) {z : ℤ} (e : z ≡ left-of limit (now - s)) where
-    told : toZ w64 (ofZ w64 z) ≡ time-left limit now s
-    told = kept limit (now - s) good e ∙ ap (left-of limit) (age-is now s fits le)
+  module _ (good : bad-time limit now ≡ false) (fits : now < 2 ^ 64) (le : s ≤ now) {z : ℤ} (e : z ≡ left-of limit (now - s)) where
+    told : toZ w64 (ofZ w64 z) ≡ left-of limit (now - s)
+    told = kept limit (now - s) (good-limit limit now good) e
+
+    -- a stamp that is not later than a minute is not the mark
+    dated : s ≢ retired-mark
+    dated q = good-time limit now good .1 (omega arith)
 
     pub judged-young : now - s ≤ limit → fresh (v % 2 ^ 32) (toZ w64 (ofZ w64 z)) ≡ verdict limit now v s
-    judged-young k = ap (fresh (v % 2 ^ 32)) told ∙ says-young limit now v s le k
+    judged-young k = ap (fresh (v % 2 ^ 32)) told ∙ says-young limit now v s dated le k
 
     pub judged-old : limit < now - s → old (toZ w64 (ofZ w64 z)) ≡ verdict limit now v s
-    judged-old k = ap old told ∙ says-old limit now v s (λ q. absurd (omega arith)) le k
+    judged-old k = ap old told ∙ says-old limit now v s dated le k
 
 -- the minute behind now: 0 behind the largest number
 pub next-minute : (g : Grant) {n : ℕ} → g .minute < 2 ^ 64 → n ≡ (g .minute + 1) % 2 ^ 64 → leb n (g .issued) ≡ bad-grant g

@@ -1,17 +1,27 @@
 // The age of a permission: what is said of a stamp at a minute, under a limit, and how long is left; and the minutes that a set brings.
 ghost use mathlib.Core.Path.{_≡_};
 ghost use Prim.Native.Nat.{_≤_};
-ghost use Rattle.model.specs.Age.{verdict, left-of, bad-time, bad-grant, late, stamp-of};
+ghost use mathlib.Core.Bool.{false};
+ghost use Rattle.model.specs.Age.{verdict, left-of, bad-time, bad-grant, late};
 ghost use Rattle.model.specs.Answers.{says-fresh};
 ghost use Rattle.model.specs.Said.{said-reading};
 use model::Grant;
 use model::Reading;
 
+// As now, the largest number is no minute.
+const NO_MINUTE: u64 = 18446744073709551615;
+
+// As the stamp of an entry it is the mark of a standing permission, which is retired.
+const RETIRED_MARK: u64 = 18446744073709551615;
+
+// The least that is told to be left: -2^62.
+const LEAST_LEFT: i64 = -4611686018427387904;
+
 // The limit or the minute is out of range.
 pub fn is_bad_time(limit: u64, minute: u64) -> bool
     ensures { λ r. ⌜ r ≡ bad-time limit minute ⌝ }
 {
-    (10080 < limit) | (minute == 18446744073709551615)
+    (10080 < limit) | (minute == NO_MINUTE)
 }
 
 // How long is left: the limit minus the age, and -2^62 where that would be below it. The age is tested first, so that nothing wraps.
@@ -22,23 +32,19 @@ fn left_of(limit: u64, age: u64) -> i64
     if age < limit + 4611686018427387904 {
         return (limit as i64) - (age as i64);
     }
-    -4611686018427387904
+    LEAST_LEFT
 }
 
-// What is said of a permission and its stamp. Requires a limit that refusal 3 lets pass. The mark is later than every minute, so it is
-// looked for only where the stamp is later than now: no other read pays for the test.
+// What is said of a permission and its stamp. Requires a limit and a minute that refusal 3 lets pass. The mark is later than every minute,
+// so it is looked for only where the stamp is later than now: no other read pays for the test.
 pub fn judged(permission: u64, stamp: u64, limit: u64, minute: u64) -> Reading
-    requires { ⌜ limit ≤ 10080 ⌝ }
+    requires { ⌜ bad-time limit minute ≡ false ⌝ }
     ensures { λ r. ⌜ said-reading r ≡ verdict limit minute permission stamp ⌝ }
 {
     let told = (permission % 4294967296) as u32;
     if minute < stamp {
-        if stamp == 18446744073709551615 {
-            let whole = limit as i64;
-            return Reading::Fresh {
-                permission: told,
-                left: whole,
-            };
+        if stamp == RETIRED_MARK {
+            return Reading::Old { left: LEAST_LEFT };
         }
         return Reading::Ahead;
     }
@@ -77,19 +83,9 @@ pub fn is_bad_grant(g: Grant) -> bool
     std::num::wrapping_add_u64(g.minute, 1) <= g.issued
 }
 
-// The list is late for an animal that is held with that stamp: the stamp is later, and neither is standing.
+// The list is late for an animal that is held with that stamp: the stamp is later, and not retired.
 pub fn is_late(stamp: u64, g: Grant) -> bool
     ensures { λ r. ⌜ r ≡ late stamp g ⌝ }
 {
-    (g.issued < stamp) & ((stamp != 18446744073709551615) & !g.standing)
-}
-
-// The stamp of a set: the minute of issue, or the standing mark.
-pub fn stamp_for(g: Grant) -> u64
-    ensures { λ r. ⌜ r ≡ stamp-of g ⌝ }
-{
-    if g.standing {
-        return 18446744073709551615;
-    }
-    g.issued
+    (g.issued < stamp) & (stamp != RETIRED_MARK)
 }
