@@ -15,7 +15,6 @@ use Rattle.model.specs.Age.{bad-time, judge, verdict}
 use Rattle.model.specs.Said.{said-reading}
 use Rattle.model.proofs.ListLaws.{walk-first}
 use Rattle.model.proofs.Lent.{and-is}
-use Rattle.ageing.proofs.Judging.{good-limit}
 use Rattle.places.specs.Walks.{first-with, place-found}
 use Rattle.places.proofs.Found.{place-within}
 use Rattle.model.specs.declared.Reading.{Reading}
@@ -42,9 +41,9 @@ module _ (i : ℕ) {g : Bool} (e : g ≡ good-items i) (n : not g ≡ false) whe
 pub words-there : (l : List ℕ) (x : ℕ) {p : ℕ} {r : Place} → place-found r ≡ first-with (length l / 4) l x → r ≡ place.At p → 4 * p + 4 ≤ length l
 words-there l x e q = omega (arith, place-within (length l / 4) l x e q)
 
--- the limit is good where 3 is not due
-pub timely-limit : (limit now : ℕ) {b : Bool} → b ≡ bad-time limit now → b ≡ false → limit ≤ 10080
-timely-limit limit now e f = good-limit limit now (sym e ∙ f)
+-- 3 is not due
+pub timely : (limit now : ℕ) {b : Bool} → b ≡ bad-time limit now → b ≡ false → bad-time limit now ≡ false
+timely limit now e f = sym e ∙ f
 
 -- the refusals in their turn, then the place
 module _ (l : List ℕ) (x limit now : ℕ) {g : Bool} (long : g ≡ good-items (length l)) where

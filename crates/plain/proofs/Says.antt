@@ -21,12 +21,13 @@ use Rattle.model.specs.Left.{TellsTime}
 use Rattle.model.proofs.ListLaws.{First, found, in-range, missing, true-false, walk-is}
 use Rattle.model.proofs.Clock.{or-true}
 use Rattle.model.proofs.Demand1.{is-refusal, judged, small-number}
+use Rattle.model.proofs.Verdict.{says-retired}
 use Rattle.model.proofs.RowWords.{says-mod}
 use Rattle.model.proofs.Runs.{not-fresh}
 use Rattle.model.proofs.FreshAnywhere.{held-in-time}
 use Rattle.model.proofs.FreshIffLeft.{judge-timely, refusal-untold}
 use Rattle.plain.specs.Plain.{plain-read}
-use Rattle.plain.specs.Owed.{Answered, PlainFresh, PlainSays}
+use Rattle.plain.specs.Owed.{Answered, PlainFresh, PlainRetired, PlainSays}
 
 -- a walk over n places from s on comes to the first place with the number
 to-first : (l : List ℕ) (x p n s : ℕ) → s ≤ p → p < s + n → animal l p ≡ x → ((q : ℕ) → q < p → animal l q ≢ x) → walk-to l x n s ≡ some p
@@ -89,6 +90,9 @@ module _ (l : List ℕ) (x limit now : ℕ) where
     where
       no-time : now ≡ no-minute → bad-time limit now ≡ true
       no-time e = rw (eq-eqb now no-minute e) (or-true (ltb 10080 limit))
+
+  pub plain-retired : PlainRetired l x limit now
+  plain-retired a p f e = plain-says .first a p f ∙ sym (says-mod limit now (permission l p) (stamp l p)) ∙ sym (says-retired limit now (permission l p) (stamp l p) e)
 
   -- so its number is small
   pub plain-small : paper (plain-read l x limit now) .number < 65536

@@ -16,5 +16,6 @@ owed =
       agrees-or-apart = why.plain-or-apart;
       fresh-anywhere = says.plain-fresh;
       fresh-iff-left = says.plain-left;
+      retired-reads = says.plain-retired;
       all-hold = written.all-hold;
     }

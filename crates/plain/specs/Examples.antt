@@ -4,7 +4,7 @@ use Prim.Native.Nat.{ℕ}
 use mathlib.Core.List.{List, [], _∷_, _++_}
 use lib.ListN.{replicate}
 use Rattle.model.specs.Memory.{Mem, mem}
-use Rattle.model.specs.Age.{no-minute, standing-mark}
+use Rattle.model.specs.Age.{no-minute, retired-mark}
 use Rattle.model.specs.Calling.{did, read}
 use Rattle.model.specs.Examples.{Example, answers, minus, numbers, one-held, one-hurt, plus}
 use Rattle.plain.specs.Plain.{plain-read}
@@ -24,13 +24,13 @@ four-places = 0 ∷ 0 ∷ 0 ∷ 0 ∷ 1 ∷ 6 ∷ 200 ∷ 0 ∷ (one-place ++ (2
 abbrev pub plain-examples : List Example
 plain-examples =
     -- document 01's, with wish 4. Stamp 100, limit 720: now 820 fresh, 0 left; now 821 old, -1; now 99 ahead, and no number; far overdue,
-    -- -2^62; standing is fresh, with the whole limit
+    -- -2^62; and so is a retired one, at every minute and under every limit
     record { says = plain-numbers one-place 1 720 820; document = 0 ∷ 1 ∷ 5 ∷ plus 0 }
     ∷ record { says = plain-numbers one-place 1 720 821; document = 0 ∷ 2 ∷ minus 1 }
     ∷ record { says = plain-numbers one-place 1 720 99; document = 0 ∷ 3 ∷ [] }
     ∷ record { says = plain-numbers one-place 1 720 18446744073709551614; document = 0 ∷ 2 ∷ minus 4611686018427387904 }
-    ∷ record { says = plain-numbers (1 ∷ 5 ∷ standing-mark ∷ 0 ∷ []) 1 0 5; document = 0 ∷ 1 ∷ 5 ∷ plus 0 }
-    ∷ record { says = plain-numbers (1 ∷ 5 ∷ standing-mark ∷ 0 ∷ []) 1 720 5; document = 0 ∷ 1 ∷ 5 ∷ plus 720 }
+    ∷ record { says = plain-numbers (1 ∷ 5 ∷ retired-mark ∷ 0 ∷ []) 1 0 0; document = 0 ∷ 2 ∷ minus 4611686018427387904 }
+    ∷ record { says = plain-numbers (1 ∷ 5 ∷ retired-mark ∷ 0 ∷ []) 1 10080 18446744073709551614; document = 0 ∷ 2 ∷ minus 4611686018427387904 }
     -- the first place with that number, behind a vacant one; the last place; a number that no place has; one that stands in another word
     ∷ record { says = plain-numbers four-places 1 720 300; document = 0 ∷ 1 ∷ 6 ∷ plus 620 }
     ∷ record { says = plain-numbers four-places 2 720 300; document = 0 ∷ 1 ∷ 7 ∷ plus 520 }

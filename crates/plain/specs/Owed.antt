@@ -1,5 +1,5 @@
 -- What is owed of the plain engine: the wish's rule on any items, that it agrees with read, and, beyond the wish, why else the two
--- differ and what fresh means; and wish 4's, how long is left. Assumes nothing.
+-- differ and what fresh means; and wish 4's, how long is left, and wish 6's, what is retired. Assumes nothing.
 use Prim.Native.Nat.{ℕ, _/_, _%_, _^_, _<_, _≤_}
 use mathlib.Core.Path.{_≡_}
 use mathlib.Core.Logic.{_≢_, _⊎_}
@@ -10,8 +10,8 @@ use lib.IntN.{ℤ}
 use Rattle.model.specs.Choice.{one-of}
 use Rattle.model.specs.Memory.{Mem, animal, permission, stamp}
 use Rattle.model.specs.Shape.{Ways, eight, four, good-items, right-lengths, shape-of}
-use Rattle.model.specs.Answers.{Answer, absent, fresh, refused}
-use Rattle.model.specs.Age.{no-minute}
+use Rattle.model.specs.Answers.{Answer, absent, fresh, old, refused}
+use Rattle.model.specs.Age.{least-left, no-minute, retired-mark}
 use Rattle.model.specs.Calling.{read}
 use Rattle.model.specs.Lent.{lent-call}
 use Rattle.model.specs.Row.{row-says}
@@ -53,9 +53,13 @@ module _ (l : List ℕ) (x limit now : ℕ) where
     pub first : Answered → (p : ℕ) → FirstWith l x p → said ≡ row-says limit now (permission l p % 2 ^ 32) (stamp l p)
     pub nowhere : Answered → ((p : ℕ) → p < length l / 4 → animal l p ≢ x) → said ≡ absent
 
-  -- fresh is said only if some place holds that number, standing or in time, with that permission modulo 2^32 and that time left
+  -- fresh is said only if some place holds that number, in time, with that permission modulo 2^32 and that time left
   abbrev pub PlainFresh : Type 0
   PlainFresh = (v : ℕ) (z : ℤ) → said ≡ fresh v z → (p : ℕ) × Holds l x limit now v z p
+
+  -- wish 6: where the first place with that number has the mark it is old, overdue by as much as is told
+  abbrev pub PlainRetired : Type 0
+  PlainRetired = Answered → (p : ℕ) → FirstWith l x p → stamp l p ≡ retired-mark → said ≡ old least-left
 
 module _ (W : Ways) where
   -- on every well-formed memory it says what read says, for every number, limit and minute
@@ -96,5 +100,7 @@ pub record Owed : Type 0 where
   pub fresh-anywhere : (l : List ℕ) (x limit now : ℕ) → PlainFresh l x limit now
   -- wish 4: it says fresh exactly if what is left is not negative
   pub fresh-iff-left : (l : List ℕ) (x limit now : ℕ) → TellsTime limit (plain-read l x limit now)
+  -- wish 6, on any items
+  pub retired-reads : (l : List ℕ) (x limit now : ℕ) → PlainRetired l x limit now
   -- the rows at the wish's edges
   pub all-hold : AllHold plain-examples × AllHold side-by-side

@@ -1,10 +1,11 @@
 // The plain engine: a reader for the auditor that knows no hashing. It walks the places in order and answers from the item words alone.
 ghost use mathlib.Core.Path.{_≡_};
+ghost use mathlib.Core.Bool.{false};
 ghost use Prim.Native.Nat.{_+_, _*_, _≤_};
 ghost use lib.ListN.{length};
 ghost use Rattle.model.specs.Memory.{permission, stamp};
 ghost use Rattle.model.specs.Shape.{good-items};
-ghost use Rattle.model.specs.Age.{verdict};
+ghost use Rattle.model.specs.Age.{bad-time, verdict};
 ghost use Rattle.model.specs.Said.{said-reading};
 ghost use Rattle.plain.specs.Plain.{plain-read};
 use model::Reading;
@@ -20,7 +21,7 @@ fn is_good_length(words: usize) -> bool
 // A place is judged as read judges its hit.
 fn judged_at(items: &[u64], p: usize, limit: u64, minute: u64) -> Reading
     requires { ⌜ 4 * p + 4 ≤ length (now items) ⌝ }
-    requires { ⌜ limit ≤ 10080 ⌝ }
+    requires { ⌜ bad-time limit minute ≡ false ⌝ }
     ensures { λ r. ⌜ said-reading r ≡ verdict limit minute (permission (now (items .entry)) p) (stamp (now (items .entry)) p) ⌝ }
 {
     ageing::judged(items[4 * p + 1], items[4 * p + 2], limit, minute)

@@ -1,5 +1,5 @@
 -- Read, a law a way out, in the code's own words. Assumes nothing.
-use Prim.Native.Nat.{ℕ, _≤_, _%_, _/_}
+use Prim.Native.Nat.{ℕ, _%_, _/_}
 use mathlib.Core.Path.{_≡_, sym, ap, _∙_}
 use mathlib.Core.Logic.{_≢_}
 use mathlib.Core.Bool.{Bool, true, false, not}
@@ -16,17 +16,12 @@ use Rattle.model.specs.Said.{said-reading}
 use Rattle.model.specs.Age.{bad-time, judge, verdict}
 use Rattle.model.specs.Calls.{Outcome, held, tell}
 use Rattle.model.specs.Lent.{lent-call}
-use Rattle.ageing.proofs.Judging.{good-limit}
 use Rattle.home_words.specs.HomeWords.{found-word, home-words, leads}
 use Rattle.looking.specs.Look.{HomesIn, Passed}
 use Rattle.looking.proofs.Early.{due-one, due-three, due-two}
 use Rattle.looking.proofs.Looking.{seen-absent, seen-busy, seen-held, seen-damaged}
 use Rattle.hashing.specs.declared.Homes.{Homes}
 use Rattle.model.specs.declared.Reading.{Reading}
-
--- the limit is good where no early refusal is due
-pub passed-limit : (W : Ways) (m : Mem) (x limit now : ℕ) → Passed W m x (bad-time limit now) → limit ≤ 10080
-passed-limit W m x limit now p = good-limit limit now (p .timely)
 
 module _ (W : Ways) (m : Mem) (x limit now : ℕ) where
   abbrev told : Answer

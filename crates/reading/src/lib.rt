@@ -1,5 +1,6 @@
 // Read, serve and find.
 ghost use mathlib.Core.Path.{_≡_};
+ghost use mathlib.Core.Bool.{false};
 ghost use Prim.Native.Nat.{_+_, _*_, _≤_};
 ghost use lib.ListN.{length, set};
 ghost use Rattle.model.specs.Choice.{choose};
@@ -18,7 +19,7 @@ use model::Reading;
 // permission behind a branch on the age, which can't be foretold.
 fn judged_at(items: &[u64], place: u32, limit: u64, minute: u64) -> Reading
     requires { ⌜ 4 * place + 4 ≤ length (now items) ⌝ }
-    requires { ⌜ limit ≤ 10080 ⌝ }
+    requires { ⌜ bad-time limit minute ≡ false ⌝ }
     ensures { λ r. ⌜ said-reading r ≡ verdict limit minute (permission (now (items .entry)) place) (stamp (now (items .entry)) place) ⌝ }
 {
     let at = 4 * (place as usize);

@@ -1,5 +1,5 @@
 -- `plain::read` meets its contract. Assumes nothing.
-use Rattle.plain.proofs.Reading.{few-places, whole-places, words-there, timely-limit, says-one, says-two, says-three, says-judged, says-absent}
+use Rattle.plain.proofs.Reading.{few-places, whole-places, words-there, timely, says-one, says-two, says-three, says-judged, says-absent}
 use borrow.Author.Needs.{needs}
 use Rattle.plain.proofs.read.Statement.{statement}
 use Rattle.plain.proofs.read.Tie as tie
@@ -9,5 +9,5 @@ read-spec =
     tie.close
     (tie.spec
     (λ c κs. search needs) (λ c. search says-one) (λ c. search says-two) (λ c κs. search needs) (λ c. search says-three)
-    (λ c κs. (search few-places, search whole-places)) (λ c. search needs) (λ c κs. (search words-there, search timely-limit)) (λ c. search needs)
+    (λ c κs. (search few-places, search whole-places)) (λ c. search needs) (λ c κs. (search words-there, search timely)) (λ c. search needs)
     (λ c. search says-judged) (λ c. search says-absent))

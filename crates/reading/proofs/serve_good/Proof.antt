@@ -3,7 +3,6 @@ use mathlib.Core.Path.{refl}
 use borrow.Author.Needs.{needs}
 use Rattle.reading.proofs.serve_good.Statement.{statement}
 use Rattle.reading.proofs.serve_good.Tie as tie
-use Rattle.reading.proofs.Reading.{passed-limit}
 use Rattle.reading.proofs.Serving.{serve-busy, serve-damaged, serve-absent, serve-held, serve-at-word}
 use Rattle.looking.proofs.HomesLie.{places-fit, places-some, places-named}
 use Rattle.home_words.proofs.Sound.{undamaged, hit-reads}
@@ -45,5 +44,5 @@ serve-good-spec =
     (tie.spec
     (λ c κs. search needs) (λ c κs. search needs) (λ c. search needs) (λ c. search serve-busy) (λ c κs. search needs) cast-m
     (λ c κs. search (needs, places-some, places-named)) (λ c. search needs) (λ c. search serve-damaged) (λ c κs. search needs)
-    (λ c κs. search (needs, undamaged)) (λ c. search needs) (λ c. search serve-absent) (λ c κs. (search hit-reads, search passed-limit)) (λ c κs. search needs)
+    (λ c κs. search (needs, undamaged)) (λ c. search needs) (λ c. search serve-absent) (λ c κs. (search hit-reads, search needs)) (λ c κs. search needs)
     mark-recent-requires (λ c. search needs) returns-4)
