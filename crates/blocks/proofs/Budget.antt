@@ -13,7 +13,7 @@ use Rattle.model.specs.Answers.{Answer, refused}
 use Rattle.model.specs.Calls.{Outcome, refuse, asked, busy, home-damage}
 use Rattle.model.specs.Promised.{Did, Does}
 use Rattle.model.proofs.Trace.{wholes-stores}
-use Rattle.blocks.specs.Made.{Made}
+use Rattle.blocks.specs.Made.{Made, all-stores}
 use Rattle.model.specs.Shape.{Ways, right-lengths, shape-of}
 use lib.Dec.{eqb}
 
@@ -63,9 +63,9 @@ few-asked W m x bad f =
     (few-or (busy (shape-of W m) m x) (few-refuse 8) (few-or (home-damage (shape-of W m) m x) (few-refuse 4) f)))) (few-refuse 1)
 
 -- a budget that covers all stores makes the whole call
-pub did-all : {o : Outcome} {n : ℕ} {m m′ : Mem} {a : Answer} → Few n o → n ≤ 18446744073709551615 → Does o 18446744073709551615 m m′ a → Did o m m′ a
+pub did-all : {o : Outcome} {n : ℕ} {m m′ : Mem} {a : Answer} → Few n o → n ≤ all-stores → Does o all-stores m m′ a → Did o m m′ a
 did-all {o} {m = m} f h d =
     record {
       told = d .told;
-      left = d .left ∙ ap (λ (ss : List Store). apply-all ss m) (take-all 18446744073709551615 (stores (o .blocks)) (omega (arith, f .few))) ∙ wholes-stores (o .blocks) m;
+      left = d .left ∙ ap (λ (ss : List Store). apply-all ss m) (take-all all-stores (stores (o .blocks)) (omega (arith, f .few))) ∙ wholes-stores (o .blocks) m;
     }

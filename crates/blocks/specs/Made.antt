@@ -6,6 +6,10 @@ use lib.ListN.{length, set, take}
 use Rattle.model.specs.Memory.{Mem}
 use Rattle.model.specs.Stores.{Store, apply-all}
 
+-- the whole budget: more stores than any call makes
+abbrev pub all-stores : ℕ
+all-stores = 18446744073709551615
+
 -- v at i of the run s, where the budget l isn't 0
 unfoldable pub put : ℕ → List ℕ → ℕ → ℕ → List ℕ
 put zero s i v = s

@@ -6,6 +6,9 @@ ghost use Rattle.model.specs.Memory.{mem};
 ghost use Rattle.model.specs.Stores.{stores-of, move, enter, update, remove};
 ghost use Rattle.blocks.specs.Made.{Put, Made};
 
+// As a budget, the largest number is the whole of it: more stores than any call makes.
+pub const ALL_STORES: u64 = 18446744073709551615;
+
 // One slot word. A slot outside of the run counts as a store and changes nothing, as in the definition.
 pub fn put_slot(slots: &mut [u32], i: usize, w: u32, left: u64) -> u64
     ensures { λ r. ⌜ Put i w left (now (slots .entry)) (now (slots .exit)) r ⌝ }

@@ -24,7 +24,7 @@ use Rattle.looking.specs.Look.{LooksUp, Passed, early, own-word, slot-found}
 use Rattle.looking.proofs.Early.{early-outcome}
 use Rattle.looking.proofs.Looking.{look-holds, look-lacks, look-refused}
 use Rattle.looking.proofs.OwnWords.{hit-words, mapped}
-use Rattle.blocks.specs.Made.{Made}
+use Rattle.blocks.specs.Made.{Made, all-stores}
 use Rattle.blocks.proofs.Budget.{Few, did-all, does-as, does-one, does-refuse, few-asked, few-refuse}
 use Rattle.deleting.specs.Removing.{removing}
 use Rattle.deleting.specs.declared.Removal.{Removal}
@@ -134,6 +134,6 @@ module _ (W : Ways) (m : Mem) (x : ℕ) where
   pub whole-early : {n : ℕ} → n ≡ early (right-lengths W m) x false → n ≢ 0 → WholeAs W m (delete x) m (refused n)
   whole-early e nz = did-all (few-delete W m x) (omega arith) (cut-early e nz)
 
-  pub whole-done : (r : Removal) {m′ : Mem} {a : Answer} → removing r ≡ lent-call W m (delete x) → Does (removing r) 18446744073709551615 m m′ a
+  pub whole-done : (r : Removal) {m′ : Mem} {a : Answer} → removing r ≡ lent-call W m (delete x) → Does (removing r) all-stores m m′ a
       → WholeAs W m (delete x) m′ a
   whole-done r e d = did-all (few-delete W m x) (omega arith) (cut-done r e d)

@@ -144,5 +144,5 @@ pub fn delete(slots: &mut [u32], counters: &mut [u32], items: &mut [u64], animal
     }
     let looked = look_whole(slots, counters, items, animal);
     let removal = removal_of(slots, counters, items, animal, looked);
-    remove_at(slots, counters, items, removal, 18446744073709551615)
+    remove_at(slots, counters, items, removal, blocks::ALL_STORES)
 }

@@ -19,7 +19,7 @@ use Rattle.model.specs.Lent.{lent-call}
 use Rattle.model.proofs.ListLaws.{bool}
 use Rattle.model.proofs.Lent.{fit}
 use Rattle.model.proofs.Clock.{next-mod}
-use Rattle.blocks.specs.Made.{Made}
+use Rattle.blocks.specs.Made.{Made, all-stores}
 use Rattle.blocks.proofs.Laws.{made-append}
 use Rattle.blocks.proofs.Budget.{Few, did-all, does-as, does-made, does-refuse, few-or, few-refuse}
 use Rattle.aiming.specs.Aiming.{Readies, Ready, Turns, aiming, passed-by, places-in}
@@ -106,5 +106,5 @@ module _ (W : Ways) (m : Mem) (hand : ℕ) (a : Aim) (w : Turns W m hand a) {m�
   pub evict-cut-done : {k : ℕ} → TurnsAs (aiming m hand a) hand k m m′ r → EvictCut W m hand k m′ r
   evict-cut-done d = record { does = does-as (w .comes) (d .does); back = d .back ∙ ap (λ (o : Outcome). hand-back hand (o .answer)) (w .comes) }
 
-  pub evict-done : TurnsAs (aiming m hand a) hand 18446744073709551615 m m′ r → Evicted W m hand m′ r
+  pub evict-done : TurnsAs (aiming m hand a) hand all-stores m m′ r → Evicted W m hand m′ r
   evict-done d = let c = evict-cut-done d in record { did = did-all (few-evict W m hand) (omega arith) (c .does); back = c .back }

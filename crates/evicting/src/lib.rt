@@ -141,5 +141,5 @@ pub fn evict(slots: &mut [u32], counters: &mut [u32], items: &mut [u64], hand: H
         (mem (now (slots .exit)) (now (counters .exit)) (now (items .exit))) r ⌝ }
 {
     let aim = aiming::aim_turn(slots, counters, items, hand);
-    carry_out(slots, counters, items, hand, aim, 18446744073709551615)
+    carry_out(slots, counters, items, hand, aim, blocks::ALL_STORES)
 }

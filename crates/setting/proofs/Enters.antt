@@ -11,7 +11,7 @@ use Rattle.model.specs.Shape.{Ways, shape, shape-of}
 use Rattle.model.specs.Stores.{enter, stores, stores-of, update}
 use Rattle.model.specs.Moves.{as-moves}
 use Rattle.model.specs.Answers.{Answer, refused, stored}
-use Rattle.model.specs.Age.{late, stamp-of}
+use Rattle.model.specs.Age.{late}
 use Rattle.model.specs.Calls.{move-blocks, refuse, set-held, updated}
 use Rattle.model.specs.Promised.{Does}
 use Rattle.model.proofs.Hash.{size-most}
@@ -47,26 +47,26 @@ module _ (m : Mem) (g : Grant) (h : Homes) (r : Room) where
   enter-refused shift e W q = does-refuse (ap (entering-by W m g h r) e)
 
   -- the moves, then the entry
-  pub enter-made : (shift : ℕ) {visits t k l l′ : ℕ} {T₁ k₁ : List ℕ} {m′ : Mem} → r .told ≡ entry.Enters visits → t ≡ stamp-of g
+  pub enter-made : (shift : ℕ) {visits k l l′ : ℕ} {T₁ k₁ : List ℕ} {m′ : Mem} → r .told ≡ entry.Enters visits
       → ((W : Ways) (p : ℕ) (i : List ℕ) → W .ways ≡ 2 ^ shift
       → Made (stores (move-blocks (shape W (length (m .slots) / 2 ^ shift) (length (m .counters)) p) (m .slots) (as-moves (take (r .found .count) (r .found .moves))))) k
       (mem (m .slots) (m .counters) i) (mem T₁ k₁ i) l)
-      → Made (stores-of (enter (h .counter) (r .place) (r .found .slot) (h .tag * 65536 + r .place) (g .animal) (g .permission) t)) l (mem T₁ k₁ (m .items)) m′ l′
+      → Made (stores-of (enter (h .counter) (r .place) (r .found .slot) (h .tag * 65536 + r .place) (g .animal) (g .permission) (g .issued))) l (mem T₁ k₁ (m .items)) m′ l′
       → (W : Ways) → W .ways ≡ 2 ^ shift → Does (entering W m g h r) k m m′ (stored visits (r .found .count))
   unfolding stores
-  enter-made shift {visits} {l′ = l′} e et moves entry W q =
-      let b = enter (h .counter) (r .place) (r .found .slot) (h .tag * 65536 + r .place) (g .animal) (g .permission) (stamp-of g) in
+  enter-made shift {visits} {l′ = l′} e moves entry W q =
+      let b = enter (h .counter) (r .place) (r .found .slot) (h .tag * 65536 + r .place) (g .animal) (g .permission) (g .issued) in
       let bs = move-blocks (shape-of W m) (m .slots) (as-moves (take (r .found .count) (r .found .moves))) in
       does-made {l = l′} (stored visits (r .found .count)) (bs ++ (b ∷ [])) (ap (entering-by W m g h r) e)
-      (rw (stores-append bs (b ∷ []), append-nil (stores-of b)) (made-append (rw (← q) at (moves W (length (m .items) / 4) (m .items) q)) (rw et at entry)))
+      (rw (stores-append bs (b ∷ []), append-nil (stores-of b)) (made-append (rw (← q) at (moves W (length (m .items) / 4) (m .items) q)) entry))
 
 -- the update of a held animal
-pub update-made : (c w : ℕ) (g : Grant) {t k l : ℕ} {n n′ i i′ : List ℕ} → t ≡ stamp-of g
-    → ((s : List ℕ) → Made (stores-of (update c (w % 65536) (g .permission) t)) k (mem s n i) (mem s n′ i′) l)
+pub update-made : (c w : ℕ) (g : Grant) {k l : ℕ} {n n′ i i′ : List ℕ}
+    → ((s : List ℕ) → Made (stores-of (update c (w % 65536) (g .permission) (g .issued))) k (mem s n i) (mem s n′ i′) l)
     → (s : List ℕ) → Does (updated c (place w) g) k (mem s n i) (mem s n′ i′) (stored 0 0)
 unfolding place
-update-made c w g {l = l} e d s =
-    does-one {l = l} (stored 0 0) (update c (w % 65536) (g .permission) (stamp-of g)) refl (rw e at (d s))
+update-made c w g {l = l} d s =
+    does-one {l = l} (stored 0 0) (update c (w % 65536) (g .permission) (g .issued)) refl (d s)
 
 -- a set of a held animal: its list is late, or it is not
 module _ (c w : ℕ) (g : Grant) (i : List ℕ) {b : Bool} (e : b ≡ late (getD i (4 * (w % 65536) + 2) 0) g) where

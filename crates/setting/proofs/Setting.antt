@@ -19,6 +19,7 @@ use Rattle.model.specs.Age.{bad-grant, late}
 use Rattle.model.specs.Calls.{Outcome, enter-at, enter-block, entered, final-slot, held, move-blocks, moves-found, search-damage, set-at, set-held, stopped, vacant-place, visited}
 use Rattle.model.specs.Promised.{CutAs, Does, WholeAs}
 use Rattle.model.proofs.Search.{length-climb}
+use Rattle.blocks.specs.Made.{all-stores}
 use Rattle.blocks.proofs.Budget.{Few, did-all, does-as, does-refuse, few-asked, few-or, few-refuse, stores-append}
 use Rattle.looking.specs.Look.{LooksUp, Passed, early}
 use Rattle.looking.proofs.Early.{early-outcome, early-passed}
@@ -91,10 +92,10 @@ module _ (W : Ways) (m : Mem) (g : Grant) where
   few-set-at (some p) = few-or (late (stamp (m .items) p) g) (few-refuse 11) (record { few = omega arith })
 
   -- behind the last store the cut form is the whole call
-  whole : 4 * W .reach + 7 ≤ 18446744073709551615 → {m′ : Mem} {a : Answer} → CutAs W m (set-animal g) 18446744073709551615 m′ a → WholeAs W m (set-animal g) m′ a
+  whole : 4 * W .reach + 7 ≤ all-stores → {m′ : Mem} {a : Answer} → CutAs W m (set-animal g) all-stores m′ a → WholeAs W m (set-animal g) m′ a
   whole h d = did-all (few-asked W m (g .animal) (bad-grant g) (few-set-at (held Y m (g .animal)))) h d
 
-module _ (W : Ways) (few : 4 * W .reach + 7 ≤ 18446744073709551615) (m : Mem) (g : Grant) {b : Bool} (eb : b ≡ bad-grant g) {n : ℕ}
+module _ (W : Ways) (few : 4 * W .reach + 7 ≤ all-stores) (m : Mem) (g : Grant) {b : Bool} (eb : b ≡ bad-grant g) {n : ℕ}
     (e : n ≡ early (right-lengths W m) (g .animal) b) where
   pub whole-early : n ≢ 0 → WholeAs W m (set-animal g) m (refused n)
   whole-early nz = whole W m g few (set-early W m g eb e nz)
@@ -103,10 +104,10 @@ module _ (W : Ways) (few : 4 * W .reach + 7 ≤ 18446744073709551615) (m : Mem) 
     pub whole-refused : {j : ℕ} → r .look ≡ look.Refused j → WholeAs W m (set-animal g) m (refused j)
     whole-refused q = whole W m g few (set-refused W m g eb e z l q)
 
-    pub whole-new : r .look ≡ look.Absent → {m′ : Mem} {a : Answer} → Does (entering-new W m g) 18446744073709551615 m m′ a → WholeAs W m (set-animal g) m′ a
+    pub whole-new : r .look ≡ look.Absent → {m′ : Mem} {a : Answer} → Does (entering-new W m g) all-stores m m′ a → WholeAs W m (set-animal g) m′ a
     whole-new q d = whole W m g few (set-new W m g eb e z l q d)
 
     pub whole-held : {w : ℕ} → r .look ≡ look.At w → {c i : List ℕ} {a : Answer}
-        → ((s : List ℕ) → Does (set-held (m .items) (r .homes .counter) (place w) g) 18446744073709551615 (mem s (m .counters) (m .items)) (mem s c i) a)
+        → ((s : List ℕ) → Does (set-held (m .items) (r .homes .counter) (place w) g) all-stores (mem s (m .counters) (m .items)) (mem s c i) a)
         → WholeAs W m (set-animal g) (mem (m .slots) c i) a
     whole-held q d = whole W m g few (set-at-held W m g eb e z l q d)

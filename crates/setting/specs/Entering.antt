@@ -9,7 +9,6 @@ use Rattle.model.specs.Shape.{Ways, right-lengths, shape-of}
 use Rattle.model.specs.Stores.{enter}
 use Rattle.model.specs.Moves.{as-moves}
 use Rattle.model.specs.Answers.{stored}
-use Rattle.model.specs.Age.{stamp-of}
 use Rattle.model.specs.Calls.{Outcome, enter-at, move-blocks, refuse, vacant-place}
 use Rattle.looking.specs.Look.{HomesIn}
 use Rattle.moves.specs.Moves.{MovesIn}
@@ -26,7 +25,7 @@ entering-by W m g h r (entry.Enters visits) =
     record {
       answer = stored visits (r .found .count);
       blocks = move-blocks (shape-of W m) (m .slots) (as-moves (take (r .found .count) (r .found .moves)))
-          ++ (enter (h .counter) (r .place) (r .found .slot) (h .tag * 65536 + r .place) (g .animal) (g .permission) (stamp-of g) ∷ []);
+          ++ (enter (h .counter) (r .place) (r .found .slot) (h .tag * 65536 + r .place) (g .animal) (g .permission) (g .issued) ∷ []);
     }
 
 abbrev pub entering : Ways → Mem → Grant → Homes → Room → Outcome

@@ -105,7 +105,6 @@ fn enter_at(
             let word = homes.tag * 65536 + place;
             let at = found.slot;
             let c = homes.counter as usize;
-            let stamp = ageing::stamp_for(g);
             blocks::enter_entry(
                 slots,
                 counters,
@@ -116,7 +115,7 @@ fn enter_at(
                 word,
                 g.animal,
                 g.permission,
-                stamp,
+                g.issued,
                 left,
             );
             Setting::Stored {
@@ -158,8 +157,7 @@ fn update_held(
         (mem s (now (counters .exit)) (now (items .exit))) (said-setting r)) ⌝ }
 {
     let c = homes.counter as usize;
-    let stamp = ageing::stamp_for(g);
-    blocks::update_entry(counters, items, c, w % 65536, g.permission, stamp, k);
+    blocks::update_entry(counters, items, c, w % 65536, g.permission, g.issued, k);
     Setting::Stored {
         visits: 0,
         moves: 0,
@@ -268,7 +266,7 @@ pub fn set(slots: &mut [u32], counters: &mut [u32], items: &mut [u64], g: Grant)
     ensures { λ r. ⌜ WholeAs four (mem (now (slots .entry)) (now (counters .entry)) (now (items .entry))) (set-animal g)
         (mem (now (slots .exit)) (now (counters .exit)) (now (items .exit))) (said-setting r) ⌝ }
 {
-    let k = 18446744073709551615;
+    let k = blocks::ALL_STORES;
     let bad = ageing::is_bad_grant(g);
     let no = looking::refused_early(slots.len(), counters.len(), items.len(), g.animal, bad);
     if no != 0 {
