@@ -1,7 +1,5 @@
 // The calls that a cabinet links, as libboughladder.a: C names over numbers and slices, and nothing but the C clothes of each answer.
 ghost use mathlib.Core.Path.{_≡_};
-ghost use mathlib.Core.Bool.{not};
-ghost use lib.Dec.{eqb};
 ghost use Rattle.model.specs.Memory.{mem};
 ghost use Rattle.model.specs.Shape.{four};
 ghost use Rattle.model.specs.Hash.{fnv-step};
@@ -86,7 +84,6 @@ pub extern "C" fn boughladder_find(
     clothes::dress_finding(told)
 }
 
-// Any `standing` but 0 means standing.
 #[no_mangle]
 pub extern "C" fn boughladder_set(
     slots: &mut [u32],
@@ -96,17 +93,15 @@ pub extern "C" fn boughladder_set(
     permission: u32,
     issued: u64,
     minute: u64,
-    standing: u32,
 ) -> BoughladderSetting
     ensures { λ r. ⌜ WholeIn four setting-clothes (mem (now (slots .entry)) (now (counters .entry)) (now (items .entry)))
-        (set-animal (grant animal permission issued minute (not (eqb standing 0)))) (mem (now (slots .exit)) (now (counters .exit)) (now (items .exit))) r ⌝ }
+        (set-animal (grant animal permission issued minute)) (mem (now (slots .exit)) (now (counters .exit)) (now (items .exit))) r ⌝ }
 {
     let granted = Grant {
         animal,
         permission,
         issued,
         minute,
-        standing: standing != 0,
     };
     let told = setting::set(slots, counters, items, granted);
     clothes::dress_setting(told)
@@ -122,18 +117,16 @@ pub extern "C" fn boughladder_set_cut(
     permission: u32,
     issued: u64,
     minute: u64,
-    standing: u32,
     k: u64,
 ) -> BoughladderSetting
     ensures { λ r. ⌜ CutIn four setting-clothes (mem (now (slots .entry)) (now (counters .entry)) (now (items .entry)))
-        (set-animal (grant animal permission issued minute (not (eqb standing 0)))) k (mem (now (slots .exit)) (now (counters .exit)) (now (items .exit))) r ⌝ }
+        (set-animal (grant animal permission issued minute)) k (mem (now (slots .exit)) (now (counters .exit)) (now (items .exit))) r ⌝ }
 {
     let granted = Grant {
         animal,
         permission,
         issued,
         minute,
-        standing: standing != 0,
     };
     let told = setting::set_cut(slots, counters, items, granted, k);
     clothes::dress_setting(told)
