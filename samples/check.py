@@ -4,7 +4,7 @@
     python3 samples/check.py [--echo] [FILE]      (no FILE, or -: standard input)
 
 It prints the answers that `./replay` must print, and ends with its status. It
-was written from the order, its change requests (wishes 1 to 5 have landed) and
+was written from the order, its change requests (wishes 1 to 6 have landed) and
 docs/replay-format.md only, not from the Rattle code, so that the two can disagree.
 Every call first works out its answer and the list of its stores without
 touching the table; then the first k stores are made. So the cut form and the
@@ -12,7 +12,9 @@ whole call are one and the same text here.
 """
 import sys
 
-TOP = 2**64 - 1                   # the standing mark; also the largest number
+TOP = 2**64 - 1                   # the largest number
+RETIRED_MARK = TOP                # the stamp of a standing permission, from before version 4
+NO_MINUTE = TOP                   # the one minute that now may not be
 LEAST_LEFT = -2**62               # who is overdue for longer is told this too
 HOLDS = {'slots': 8192, 'counters': 1024, 'items': 4096}  # words: the most that replay holds
 BUFFER_MAX = 81920
@@ -117,7 +119,7 @@ class Table:
         self.test_1()
         if animal == 0:
             raise Refused(2)
-        if limit > 10080 or now == TOP or issued > now:
+        if limit > 10080 or now == NO_MINUTE or issued > now:
             raise Refused(3)
         self.test_8_4(animal)
 
@@ -140,8 +142,8 @@ class Table:
         permission = self.items[4 * place + 1] % 2**32
         stamp = self.items[4 * place + 2]
         recent = [('items', 4 * place + 3, 1)] if serve else []
-        if stamp == TOP:
-            return f'fresh {permission} {limit}', recent
+        if stamp == RETIRED_MARK:            # at every minute: it comes before "ahead"
+            return f'old {LEAST_LEFT}', []
         if stamp > now:
             return 'ahead', []
         left = limit - (now - stamp)
@@ -155,12 +157,14 @@ class Table:
             raise Refused(1)
         if animal == 0:
             raise Refused(2)
-        if limit > 10080 or now == TOP:
+        if limit > 10080 or now == NO_MINUTE:
             raise Refused(3)
         for place in range(len(self.items) // 4):
             number, permission, stamp, _ = self.items[4 * place:4 * place + 4]
             if number == animal:             # the first, where there are twins
-                age = 0 if stamp == TOP else now - stamp
+                if stamp == RETIRED_MARK:
+                    return f'old -{2**62}'
+                age = now - stamp
                 if age < 0:
                     return 'ahead'
                 if age > limit:
@@ -168,18 +172,17 @@ class Table:
                 return f'fresh {permission % 2**32} {limit - age}'
         return 'absent'
 
-    def set(self, animal, permission, issued, now, standing):
+    def set(self, animal, permission, issued, now):
         self.test_1_2_3_8_4(animal, issued=issued, now=now)
-        stamp = TOP if standing else issued
         bump = ('counters', self.counter_of(animal), None)
         held = self.hit(animal)
         if held is not None:
             p = 4 * (self.slots[held] % 65536)
-            if not standing and TOP != self.items[p + 2] > issued:
+            if RETIRED_MARK != self.items[p + 2] > issued:
                 raise Refused(11)
             return 'stored 0 0', [bump,
                                   ('items', p + 1, permission),
-                                  ('items', p + 2, stamp),
+                                  ('items', p + 2, issued),
                                   ('items', p + 3, 1), bump]
         vacant = [p for p in range(self.m) if self.items[4 * p] == 0]
         if not vacant:
@@ -194,7 +197,7 @@ class Table:
         p = 4 * vacant[0]
         stores += [bump,
                    ('items', p, animal), ('items', p + 1, permission),
-                   ('items', p + 2, stamp), ('items', p + 3, 1),
+                   ('items', p + 2, issued), ('items', p + 3, 1),
                    ('slots', free, tag_of(animal) * 65536 + vacant[0]), bump]
         return f'stored {visits} {len(moves)}', stores
 
@@ -310,9 +313,8 @@ class Table:
 # length of a buffer, W a word of 32 bits, any other word stands for itself. What
 # stands before .. comes as often as the line has words for it.
 FORMS = [form.split() for form in (
-    'fresh N N N', 'set N P N N', 'set N P N N standing', 'read N N N',
-    'serve N N N', 'plain N N N', 'delete N', 'evict', 'hand N',
-    'cut N set N P N N', 'cut N set N P N N standing', 'cut N delete N',
+    'fresh N N N', 'set N P N N', 'read N N N', 'serve N N N', 'plain N N N',
+    'delete N', 'evict', 'hand N', 'cut N set N P N N', 'cut N delete N',
     'cut N evict', 'list B', 'poke slots N N', 'poke counters N N',
     'poke items N N', 'dump', 'slots W ..', 'counters W ..', 'items N ..', 'judge',
     '')]
@@ -422,7 +424,7 @@ class Replay:
         """Set, delete or evict, of which the first k stores are made."""
         t = self.table
         if name == 'set':
-            answer, stores = t.set(*rest[:4], standing=len(rest) == 5)
+            answer, stores = t.set(*rest)
         elif name == 'delete':
             answer, stores = t.delete(*rest)
         else:

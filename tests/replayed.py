@@ -22,12 +22,14 @@ sys.dont_write_bytecode = True
 import check  # noqa: E402
 
 MARK = b'\xef\xbb\xbf'
-WORDS = b'fresh set read serve plain delete evict hand cut list poke dump slots counters items standing judge'.split()
+WORDS = b'fresh set read serve plain delete evict hand cut list poke dump slots counters items judge'.split()
+WORDS += [b'standing']  # no word of the language any more
 WHOLE = 1024 + 7  # the most stores that a call can have to make: an evict that clears every place of the largest table
 PAIRS = {True: [0, 0], False: [0, 0]}  # plain beside read, on good tables and on others: all, the unlike
 VERDICTS = dict.fromkeys(['yes', *('no %d' % n for n in range(1, 9))], 0)
 FAR = 2**62  # minutes overdue; beyond them the answer stays the same
 LEFT = dict.fromkeys(['the whole limit', 'limit 0', '1', '0', '-1', '-2^62 + 1', '-2^62'], 0)  # answers that tell so
+RETIRED = dict.fromkeys(['read', 'serve', 'plain', 'set', 'delete'], 0)  # of a standing entry, and not refused
 
 
 def run(command, data):
@@ -115,6 +117,7 @@ class Day:
         self.there = check.Replay()  # the table as it stands after the lines so far
         # With cuts most calls are refused 8, so some days have pokes alone, to reach what comes after 8.
         self.cuts, self.pokes = self.r.choice([(False, False), (False, True), (True, True)])
+        self.before = not self.one_in(3)  # a cabinet from before version 4, with standing permissions
         self.shape()
 
     def shape(self):
@@ -171,7 +174,7 @@ class Day:
             self.issues.pop(animal, None)
             self.issues[animal] = issued  # the last to be set stands last
         line = ['set', animal, self.r.choice([0, 1, 2, 3, 2**32 - 1]), issued, now]
-        return line + ['standing'] * self.one_in(7)
+        return line + ['standing'] * self.one_in(50)  # not understood, since version 4
 
     def write(self):
         """A set, delete or evict."""
@@ -204,6 +207,22 @@ class Day:
         for run, index, word in changes:
             now[run][index] = word
         return [[run, *words] for run, words in now.items()]
+
+    def retired(self):
+        """Some who are held get the stamp of a standing permission, by pokes or a loaded run; one is asked for."""
+        r, t = self.r, self.there.table
+        places = r.sample(t.live(), min(len(t.live()), r.choice([1, 1, 4])))
+        marks = [('items', 4 * p + 2, check.RETIRED_MARK - self.one_in(6)) for p in places]  # one less is a minute
+        made = [['poke', *mark] for mark in marks] if self.one_in(2) else self.loads(['items'], marks)
+        if self.one_in(3):
+            made.append(['poke', 'items', 4 * places[0] + 3, 0])  # she was not here lately
+        her = self.last = t.items[4 * places[0]]
+        asked = [her, self.limit(), r.choice([0, self.minute(), self.minute(), 2**64 - 2])]
+        self.issues[her] = self.issues.pop(her, self.now)
+        now = self.minute()
+        line = ['set', her, r.randrange(4), r.choice([0, now // 2, max(0, now - 1), now]), now]
+        after = r.choice([[], [line], [line], [['dump']], [['evict']], [['delete', her]]])
+        return [*made, ['judge'], ['serve', *asked], ['read', *asked], ['plain', *asked], *after]
 
     def a_run(self):
         """A run of any length and any words; now and then a word more than the program holds."""
@@ -277,6 +296,9 @@ class Day:
         if self.one_in(70):
             self.coming = [*self.loads(check.HOLDS), ['judge']]  # nothing has changed: as good as it was
             return ['dump']
+        if self.before and self.one_in(40) and self.there.table.live():
+            self.coming = self.retired()
+            return self.coming.pop(0)
         if self.pokes and self.one_in(60):
             self.coming = [['judge']] if self.one_in(2) else [['judge'], ['fresh', 4 * self.n, self.v, 4 * self.m]]
             return self.a_run()
@@ -350,11 +372,15 @@ class Day:
 
     def line(self):
         """The next line. It is answered here too, so that the table is known."""
-        line = self.bare_line()
+        line, t = self.bare_line(), self.there.table
+        marked = [t.items[4 * p] for p in t.live() if t.items[4 * p + 2] == check.RETIRED_MARK]
         try:
             words = check.words_of(line)
             if words:
-                self.there.answer(check.understood(words))
+                call = check.understood(words)
+                self.there.answer(call)
+                if call[0] in RETIRED:
+                    RETIRED[call[0]] += call[1] in marked
         except (check.NotUnderstood, check.Refused):
             pass
         return line
@@ -396,18 +422,18 @@ def samples():
 
 
 def every_turn():
-    """Each call asks at every turn of the answer, and a minute before and after it."""
+    """Each call asks at every turn of the answer, and a minute before and after it. The last animal is standing."""
     stamps = {1: 0, 2: 100, 3: 2**64 - 2, 4: 50}
     lines = ['fresh 16 4 16', *('set %d 1 %d %d' % (animal, stamp, stamp) for animal, stamp in stamps.items())]
-    lines[-1] += ' standing'
+    lines += ['poke items 14 %d' % check.RETIRED_MARK, 'poke items 15 0', 'judge']
     for animal, stamp in stamps.items():
         for limit in 0, 1, 720, 10080, 10081:
             turns = {stamp + age + more for age in (0, limit) for more in (0, FAR, 2 * FAR)} | {2**64 - 2}
             for now in sorted({turn + beside for turn in turns for beside in (-1, 0, 1)}):
                 if now not in range(2**64):
                     continue
-                lines += ['%s %d %d %d' % (call, animal, limit, now) for call in ('read', 'serve', 'plain')]
-    return '\n'.join(lines).encode()
+                lines += ['%s %d %d %d' % (call, animal, limit, now) for call in ('serve', 'read', 'plain')]
+    return '\n'.join(lines + ['dump']).encode()
 
 
 def every_length():
@@ -424,7 +450,8 @@ def fresh_lines(seed, files, lines):
     edges = [b'', b'\n', b'\r', b'\r\n', b'#', b'd', b'dump', b'dump\r', b'\x00', MARK, MARK + b'\n', MARK + b'dump',
              MARK + MARK + b'dump', MARK[:1], MARK[:2] + b'dump', b'\n' + MARK + b'dump', b' ' + MARK + b'dump\n',
              b'dump' + MARK, b'plain 0 10081 1\nfresh 8 1 4\nplain 0 10081 1\ncut 1 plain 1 1 1', b'judge', b'slots',
-             b'judge\nslots # 1\njudge\nslots' + b' 0' * 8 + b'\njudge\ncounters 0\njudge\nitems 0 0 0 0\njudge\ndump']
+             b'judge\nslots # 1\njudge\nslots' + b' 0' * 8 + b'\njudge\ncounters 0\njudge\nitems 0 0 0 0\njudge\ndump',
+             b'fresh 8 1 4\nset 1 1 1 1 standing\ncut 9 set 1 1 1 1 standing#\nset 1 1 1 standing\nread 1 1 1']
     for n, data in enumerate(edges):
         compare('edge %d' % n, data)
     compare('every turn', every_turn())
@@ -437,6 +464,7 @@ def fresh_lines(seed, files, lines):
           % (PAIRS[True][0], *PAIRS[False]))
     print('judged: ' + ', '.join('%s %d' % told for told in VERDICTS.items()))
     print('left: ' + ', '.join('%s %d' % told for told in LEFT.items()))
+    print('retired: ' + ', '.join('%s %d' % told for told in RETIRED.items()))
     if not PAIRS[True][0]:
         sys.exit('too few lines: plain and read were never compared')
 
