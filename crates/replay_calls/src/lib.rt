@@ -12,15 +12,14 @@ use places::Hand;
 use replay_rows::Turn;
 
 // What a set line grants.
-pub fn granted(animal: u64, p: u64, issued: u64, minute: u64, standing: bool) -> Grant
-    ensures { λ r. ⌜ r ≡ grant animal (permission p) issued minute standing ⌝ }
+pub fn granted(animal: u64, p: u64, issued: u64, minute: u64) -> Grant
+    ensures { λ r. ⌜ r ≡ grant animal (permission p) issued minute ⌝ }
 {
     Grant {
         animal,
         permission: (p % 4294967296) as u32,
         issued,
         minute,
-        standing,
     }
 }
 

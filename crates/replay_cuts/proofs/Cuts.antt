@@ -3,7 +3,6 @@ use Prim.Native.Nat.{ℕ, _≤_}
 use native.Mathlib.Omega.{arith}
 use mathlib.Core.Path.{_≡_, refl}
 use mathlib.Core.Logic.{_≢_}
-use mathlib.Core.Bool.{true, false}
 use mathlib.Core.List.{List}
 use lib.ListN.{getD}
 use Rattle.model.specs.Memory.{Mem}
@@ -28,22 +27,17 @@ cut-turned k w e = record { put = w .told .line; near = omega (arith, w .told .r
 
 -- row by row
 module _ {m m′ : Mem} {at h next : ℕ} {before after : List ℕ} {row : ℕ} (n : ℕ) (xs : List ℕ) where
-  pub as-cut-set : {g : Grant} → row ≡ 6 → g ≡ grant (getD xs 1 0) (permission (getD xs 2 0)) (getD xs 3 0) (getD xs 4 0) false
+  pub as-cut-set : {g : Grant} → row ≡ 5 → g ≡ grant (getD xs 1 0) (permission (getD xs 2 0)) (getD xs 3 0) (getD xs 4 0)
       → Cut m (set-animal g) (getD xs 0 0) m′ at before after next → Arm row n xs m h m′ at before after next
   unfolding meaning
   as-cut-set {g} e q w = rw (e, ← q) (cut-off (set-animal g) (getD xs 0 0) w)
 
-  pub as-cut-standing : {g : Grant} → row ≡ 7 → g ≡ grant (getD xs 1 0) (permission (getD xs 2 0)) (getD xs 3 0) (getD xs 4 0) true
-      → Cut m (set-animal g) (getD xs 0 0) m′ at before after next → Arm row n xs m h m′ at before after next
-  unfolding meaning
-  as-cut-standing {g} e q w = rw (e, ← q) (cut-off (set-animal g) (getD xs 0 0) w)
-
-  pub as-cut-delete : row ≡ 8 → Cut m (delete (getD xs 1 0)) (getD xs 0 0) m′ at before after next → Arm row n xs m h m′ at before after next
+  pub as-cut-delete : row ≡ 6 → Cut m (delete (getD xs 1 0)) (getD xs 0 0) m′ at before after next → Arm row n xs m h m′ at before after next
   unfolding meaning
   as-cut-delete e w = rw e (cut-off (delete (getD xs 1 0)) (getD xs 0 0) w)
 
 module _ {m m′ : Mem} {at h : ℕ} {before after : List ℕ} {row : ℕ} {r : Turn} (n : ℕ) (xs : List ℕ) where
-  pub as-cut-evict : 6 ≤ row → row ≤ 9 → row ≢ 6 → row ≢ 7 → row ≢ 8 → Cut m (evict h) (getD xs 0 0) m′ at before after (r .next) → r .hand ≡ hand-back h (answer-of m (evict h))
+  pub as-cut-evict : 5 ≤ row → row ≤ 7 → row ≢ 5 → row ≢ 6 → Cut m (evict h) (getD xs 0 0) m′ at before after (r .next) → r .hand ≡ hand-back h (answer-of m (evict h))
       → Replied (meaning row n xs (world m h)) m′ at before after r
   unfolding meaning
-  as-cut-evict lo hi n6 n7 n8 w b = let e : row ≡ 9 = omega arith in rw e (cut-turned (getD xs 0 0) w b)
+  as-cut-evict lo hi n5 n6 w b = let e : row ≡ 7 = omega arith in rw e (cut-turned (getD xs 0 0) w b)

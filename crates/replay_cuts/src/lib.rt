@@ -7,7 +7,7 @@ ghost use Rattle.replay_rows.specs.World.{Ample, Replied, world};
 ghost use Rattle.replay_rows.specs.Meaning.{meaning};
 use replay_rows::Turn;
 
-// Rows 6 to 9: a call that is cut behind its first k stores.
+// Rows 5 to 7: a call that is cut behind its first k stores.
 pub fn cut_call(
     row: usize,
     number: u64,
@@ -19,7 +19,7 @@ pub fn cut_call(
     at: usize,
     hand: usize,
 ) -> Turn
-    requires { ⌜ (6 ≤ row) × (row ≤ 9) × (length (now numbers) ≡ 8) ⌝ }
+    requires { ⌜ (5 ≤ row) × (row ≤ 7) × (length (now numbers) ≡ 8) ⌝ }
     requires { ⌜ Ample (mem (now slots) (now counters) (now items)) at (now out) ⌝ }
     ensures { λ r. ⌜ Replied (meaning row number (now (numbers .entry)) (world (mem (now (slots .entry)) (now (counters .entry)) (now (items .entry))) hand))
         (mem (now (slots .exit)) (now (counters .exit)) (now (items .exit))) at (now (out .entry)) (now (out .exit)) r ⌝ }
@@ -30,31 +30,19 @@ pub fn cut_call(
     let c = numbers[3];
     let d = numbers[4];
     match row {
+        5 => Turn {
+            next: replay_calls::answer_set_cut(
+                slots,
+                counters,
+                items,
+                replay_calls::granted(a, b, c, d),
+                k,
+                out,
+                at,
+            ),
+            hand,
+        },
         6 => Turn {
-            next: replay_calls::answer_set_cut(
-                slots,
-                counters,
-                items,
-                replay_calls::granted(a, b, c, d, false),
-                k,
-                out,
-                at,
-            ),
-            hand,
-        },
-        7 => Turn {
-            next: replay_calls::answer_set_cut(
-                slots,
-                counters,
-                items,
-                replay_calls::granted(a, b, c, d, true),
-                k,
-                out,
-                at,
-            ),
-            hand,
-        },
-        8 => Turn {
             next: replay_calls::answer_delete_cut(slots, counters, items, a, k, out, at),
             hand,
         },

@@ -10,7 +10,7 @@ use Rattle.replay_lines.specs.Line.{Said, first-row, fitting, padded, sa
 
 -- five rows: what a blank line follows, two kinds of set, and two more
 abbrev table : List ℕ
-table = bytes "\nfresh N N N\nset N P N N\nset N P N N standing\nevict"
+table = bytes "\nfresh N N N\nset N P N N\nset N P N N twice\nevict"
 
 abbrev row : ℕ → List ℕ → Said
 row r ns = record { row = r; numbers = ns }
@@ -18,11 +18,11 @@ row r ns = record { row = r; numbers = ns }
 pub understood :
     (said table (bytes "fresh 8 4 16") ≡ row 1 (8 ∷ 4 ∷ 16 ∷ []))
     × (said table (bytes "set 7 15 20 30") ≡ row 2 (7 ∷ 15 ∷ 20 ∷ 30 ∷ []))
-    × (said table (bytes "\tset  7 015\t20 30 standing\r") ≡ row 3 (7 ∷ 15 ∷ 20 ∷ 30 ∷ []))
+    × (said table (bytes "\tset  7 015\t20 30 twice\r") ≡ row 3 (7 ∷ 15 ∷ 20 ∷ 30 ∷ []))
     × (said table (bytes "set 1 4294967295 2 3") ≡ row 2 (1 ∷ 4294967295 ∷ 2 ∷ 3 ∷ []))
     × (said table (bytes "fresh 1 18446744073709551615 000") ≡ row 1 (1 ∷ 18446744073709551615 ∷ 0 ∷ []))
     × (said table (bytes "set 1 2 3 4#x") ≡ row 2 (1 ∷ 2 ∷ 3 ∷ 4 ∷ []))
-    × (said table (bytes "set 1 2 3 4 # standing") ≡ row 2 (1 ∷ 2 ∷ 3 ∷ 4 ∷ []))
+    × (said table (bytes "set 1 2 3 4 # twice") ≡ row 2 (1 ∷ 2 ∷ 3 ∷ 4 ∷ []))
     × (said table (bytes "evict") ≡ row 4 [])
 unfolding said said-by first-row fitting taken bound lines words pieces filled before same number number-from value all-digits without-comment without-return
 understood = (refl, refl, refl, refl, refl, refl, refl, refl)
@@ -46,9 +46,9 @@ pub not-understood :
     × (said table (bytes "fresh 1 2") ≡ row 5 (1 ∷ []))
     × (said table (bytes "fresh 1 2 3 4") ≡ row 5 (2 ∷ []))
     × (said table (bytes "set 1 4294967296 2 3") ≡ row 5 (3 ∷ []))
-    × (said table (bytes "set 1 2 3 4 standin") ≡ row 5 (0 ∷ []))
+    × (said table (bytes "set 1 2 3 4 twic") ≡ row 5 (0 ∷ []))
     × (said table (bytes "set 1 2 3 4 5") ≡ row 5 (2 ∷ []))
-    × (said table (bytes "set 1 2 3 4 standing 5") ≡ row 5 (2 ∷ []))
+    × (said table (bytes "set 1 2 3 4 twice 5") ≡ row 5 (2 ∷ []))
     × (said table (bytes "set 1 2 3 # 4") ≡ row 5 (1 ∷ []))
     × (said table (bytes "evict 1") ≡ row 5 (2 ∷ []))
     × (said table (bytes "evict now") ≡ row 5 (0 ∷ []))

@@ -9,7 +9,7 @@ use Rattle.model.specs.Memory.{damaged, mem, place, tag}
 use Rattle.model.specs.Hash.{bytes as low-bytes, fnv, fnv-step, hash, odd-up, other-bucket, spread, tag-from}
 use Rattle.model.specs.Shape.{good-counters, good-items, good-lengths, good-slots}
 use Rattle.model.specs.Visits.{climb, first-free, free-slot, hops, lowest, next-level, visits}
-use Rattle.model.specs.Age.{age, is-fresh, left-of, verdict}
+use Rattle.model.specs.Age.{is-fresh, left-of, verdict}
 use Rattle.model.specs.Clock.{next-hand, passed-recent, seek-victim}
 use Rattle.model.specs.Listing.{list-record, listing, live-count, records}
 use Rattle.model.specs.Calls.{hit, hits, slot-of, some-live, vacant-place}
@@ -37,64 +37,64 @@ row r ns = record { row = r; numbers = ns }
 
 pub understood :
     (said language (bytes "set 7 15 20 30") ≡ row 2 (7 ∷ 15 ∷ 20 ∷ 30 ∷ []))
-    × (said language (bytes "\tset  7 015\t20 30 standing\r") ≡ row 3 (7 ∷ 15 ∷ 20 ∷ 30 ∷ []))
+    × (said language (bytes "\tset  7 015\t20 30\r") ≡ row 2 (7 ∷ 15 ∷ 20 ∷ 30 ∷ []))
     × (said language (bytes "set 1 4294967295 2 3") ≡ row 2 (1 ∷ 4294967295 ∷ 2 ∷ 3 ∷ []))
-    × (said language (bytes "fresh 8 4 16") ≡ row 16 (8 ∷ 4 ∷ 16 ∷ []))
+    × (said language (bytes "fresh 8 4 16") ≡ row 14 (8 ∷ 4 ∷ 16 ∷ []))
     × (said language (bytes "read 1 2 3#x") ≡ row 1 (1 ∷ 2 ∷ 3 ∷ []))
     × (said language (bytes "serve 1 2 3 # x") ≡ row 0 (1 ∷ 2 ∷ 3 ∷ []))
-    × (said language (bytes "delete 9") ≡ row 4 (9 ∷ []))
-    × (said language (bytes "evict") ≡ row 5 ([]))
-    × (said language (bytes "hand 18446744073709551615") ≡ row 10 (18446744073709551615 ∷ []))
-    × (said language (bytes "cut 5 set 1 2 3 4") ≡ row 6 (5 ∷ 1 ∷ 2 ∷ 3 ∷ 4 ∷ []))
-    × (said language (bytes "cut 5 set 1 2 3 4 standing") ≡ row 7 (5 ∷ 1 ∷ 2 ∷ 3 ∷ 4 ∷ []))
-    × (said language (bytes "cut 5 delete 9") ≡ row 8 (5 ∷ 9 ∷ []))
-    × (said language (bytes "cut 5 evict") ≡ row 9 (5 ∷ []))
-    × (said language (bytes "list 81920") ≡ row 11 (81920 ∷ []))
-    × (said language (bytes "poke slots 0 9") ≡ row 12 (0 ∷ 9 ∷ []))
-    × (said language (bytes "poke counters 0 9") ≡ row 13 (0 ∷ 9 ∷ []))
-    × (said language (bytes "poke items 0 9") ≡ row 14 (0 ∷ 9 ∷ []))
-    × (said language (bytes "dump") ≡ row 15 ([]))
-    × (said language (bytes "plain 1 2 3") ≡ row 17 (1 ∷ 2 ∷ 3 ∷ []))
-    × (said language (bytes "judge") ≡ row 18 ([]))
-    × (said language (bytes "# set 7 15 20 30") ≡ row 19 ([]))
+    × (said language (bytes "delete 9") ≡ row 3 (9 ∷ []))
+    × (said language (bytes "evict") ≡ row 4 ([]))
+    × (said language (bytes "hand 18446744073709551615") ≡ row 8 (18446744073709551615 ∷ []))
+    × (said language (bytes "cut 5 set 1 2 3 4") ≡ row 5 (5 ∷ 1 ∷ 2 ∷ 3 ∷ 4 ∷ []))
+    × (said language (bytes "cut 5 delete 9") ≡ row 6 (5 ∷ 9 ∷ []))
+    × (said language (bytes "cut 5 evict") ≡ row 7 (5 ∷ []))
+    × (said language (bytes "list 81920") ≡ row 9 (81920 ∷ []))
+    × (said language (bytes "poke slots 0 9") ≡ row 10 (0 ∷ 9 ∷ []))
+    × (said language (bytes "poke counters 0 9") ≡ row 11 (0 ∷ 9 ∷ []))
+    × (said language (bytes "poke items 0 9") ≡ row 12 (0 ∷ 9 ∷ []))
+    × (said language (bytes "dump") ≡ row 13 ([]))
+    × (said language (bytes "plain 1 2 3") ≡ row 15 (1 ∷ 2 ∷ 3 ∷ []))
+    × (said language (bytes "judge") ≡ row 16 ([]))
+    × (said language (bytes "# set 7 15 20 30") ≡ row 17 ([]))
 unfolding said said-by first-row fitting taken bound lines words pieces filled before same number number-from value all-digits without-comment without-return
-understood = (refl, refl, refl, refl, refl, refl, refl, refl, refl, refl, refl, refl, refl, refl, refl, refl, refl, refl, refl, refl, refl)
+understood = (refl, refl, refl, refl, refl, refl, refl, refl, refl, refl, refl, refl, refl, refl, refl, refl, refl, refl, refl, refl)
 
--- no row fits: there are 20, and the number is the reason
+-- no row fits: there are 18, and the number is the reason
 pub not-understood :
-    (said language (bytes "hand 18446744073709551616") ≡ row 20 (3 ∷ []))
-    × (said language (bytes "hand +1") ≡ row 20 (0 ∷ []))
-    × (said language (bytes "hand 1a") ≡ row 20 (0 ∷ []))
-    × (said language (bytes "hand") ≡ row 20 (1 ∷ []))
-    × (said language (bytes "hand 1 1") ≡ row 20 (2 ∷ []))
-    × (said language (bytes "set 1 4294967296 2 3") ≡ row 20 (3 ∷ []))
-    × (said language (bytes "set 1 2 3 4 standin") ≡ row 20 (0 ∷ []))
-    × (said language (bytes "set 1 2 3 4 standing 5") ≡ row 20 (2 ∷ []))
-    × (said language (bytes "set 1 2 3 standing") ≡ row 20 (0 ∷ []))
-    × (said language (bytes "set 1 2 3") ≡ row 20 (1 ∷ []))
-    × (said language (bytes "fresh 1 2") ≡ row 20 (1 ∷ []))
-    × (said language (bytes "evict 1") ≡ row 20 (2 ∷ []))
-    × (said language (bytes "Dump") ≡ row 20 (0 ∷ []))
-    × (said language (bytes "dumps") ≡ row 20 (0 ∷ []))
-    × (said language (bytes "dump\r\r") ≡ row 20 (0 ∷ []))
-    × (said language (bytes "cut 5 read 1 2 3") ≡ row 20 (0 ∷ []))
-    × (said language (bytes "cut evict") ≡ row 20 (0 ∷ []))
-    × (said language (bytes "list 81921 5") ≡ row 20 (3 ∷ []))
-    × (said language (bytes "poke") ≡ row 20 (1 ∷ []))
-    × (said language (bytes "12 13") ≡ row 20 (0 ∷ []))
-    × (said language (bytes "poke 0 9") ≡ row 20 (0 ∷ []))
-    × (said language (bytes "plain 1 2") ≡ row 20 (1 ∷ []))
-    × (said language (bytes "cut 5 plain 1 2 3") ≡ row 20 (0 ∷ []))
+    (said language (bytes "hand 18446744073709551616") ≡ row 18 (3 ∷ []))
+    × (said language (bytes "hand +1") ≡ row 18 (0 ∷ []))
+    × (said language (bytes "hand 1a") ≡ row 18 (0 ∷ []))
+    × (said language (bytes "hand") ≡ row 18 (1 ∷ []))
+    × (said language (bytes "hand 1 1") ≡ row 18 (2 ∷ []))
+    × (said language (bytes "set 1 4294967296 2 3") ≡ row 18 (3 ∷ []))
+    × (said language (bytes "set 1 2 3 4 standing") ≡ row 18 (0 ∷ []))
+    × (said language (bytes "set 1 2 3 4 standing 5") ≡ row 18 (0 ∷ []))
+    × (said language (bytes "cut 5 set 1 2 3 4 standing") ≡ row 18 (0 ∷ []))
+    × (said language (bytes "set 1 2 3 standing") ≡ row 18 (0 ∷ []))
+    × (said language (bytes "set 1 2 3") ≡ row 18 (1 ∷ []))
+    × (said language (bytes "fresh 1 2") ≡ row 18 (1 ∷ []))
+    × (said language (bytes "evict 1") ≡ row 18 (2 ∷ []))
+    × (said language (bytes "Dump") ≡ row 18 (0 ∷ []))
+    × (said language (bytes "dumps") ≡ row 18 (0 ∷ []))
+    × (said language (bytes "dump\r\r") ≡ row 18 (0 ∷ []))
+    × (said language (bytes "cut 5 read 1 2 3") ≡ row 18 (0 ∷ []))
+    × (said language (bytes "cut evict") ≡ row 18 (0 ∷ []))
+    × (said language (bytes "list 81921 5") ≡ row 18 (3 ∷ []))
+    × (said language (bytes "poke") ≡ row 18 (1 ∷ []))
+    × (said language (bytes "12 13") ≡ row 18 (0 ∷ []))
+    × (said language (bytes "poke 0 9") ≡ row 18 (0 ∷ []))
+    × (said language (bytes "plain 1 2") ≡ row 18 (1 ∷ []))
+    × (said language (bytes "cut 5 plain 1 2 3") ≡ row 18 (0 ∷ []))
 unfolding said said-by first-row fitting taken bound lines words pieces filled before same number number-from value all-digits without-comment without-return why-not furthest parting takes behind instead
-not-understood = (refl, refl, refl, refl, refl, refl, refl, refl, refl, refl, refl, refl, refl, refl, refl, refl, refl, refl, refl, refl, refl, refl, refl)
+not-understood = (refl, refl, refl, refl, refl, refl, refl, refl, refl, refl, refl, refl, refl, refl, refl, refl, refl, refl, refl, refl, refl, refl, refl, refl)
 
--- a cow that is set, read, served and deleted but for one store; another that stays; and what is answered to the rest
+-- a cow that is set, read, served and deleted but for one store; another that stays, and whose entry is retired; and what is answered to the rest
 abbrev day : List ℕ
-day = bytes "# a day of one cow\nfresh 8 1 4\nset 1 5 2 3\nread 1 720 2\nserve\t1 0 9\ncut 1 delete 1\nread 1 720 3\nplain 1 720 3\nfresh 8 1 8\nset 7 4294967295 5 6 standing\nread 7 30 9\ncut 3 evict\nhand 1\nevict\nlist 20\nset 1 4294967296 2 3\npoke items 4 9\npoke slots 8 1\nlist 81921\ndump"
+day = bytes "# a day of one cow\nfresh 8 1 4\nset 1 5 2 3\nread 1 720 2\nserve\t1 0 9\ncut 1 delete 1\nread 1 720 3\nplain 1 720 3\nfresh 8 1 8\nset 7 4294967295 5 6\nread 7 30 9\npoke items 2 18446744073709551615\nread 7 30 9\ncut 3 evict\nhand 1\nevict\nlist 20\nset 1 4294967296 2 3\npoke items 4 9\npoke slots 8 1\nlist 81921\ndump"
 
 pub day-answered : answers false day
-    ≡ bytes "fresh\nstored 1 0\nfresh 5 720\nold -7\ndeleted\nrefused 8\nfresh 5 719\nfresh\nstored 1 0\nfresh 4294967295 30\nevicted 7 3 1\nhand\nrefused 8\nlisted 1\n0700000000000000ffffffffffffffffffffffff\nline 16: not understood: number too large\npoked\nno such word\nline 19: not understood: number too large\nslots 0 0 0 0 0 0 0 0\ncounters 3\nitems 7 4294967295 18446744073709551615 0 9 0 0 0\n"
-unfolding replayed reply-to loading load-of run-named weighed loads-run shown meaning starts asks calls cuts turns cut-turns hands lists pokes-slots pokes-counters pokes-items audits plain-read walk-to said said-by first-row fitting taken bound why-not furthest parting takes behind instead lines words pieces filled before same number number-from value all-digits without-comment without-return without-mark mark-length told numbered reason decimal-of signed-of digits record-lines hexes hex-of hex-digit hash fnv fnv-step low-bytes tag-from odd-up spread other-bucket tag place damaged range first good-lengths good-slots good-counters good-items hits hit vacant-place some-live visits next-level hops first-free free-slot lowest climb is-fresh age left-of verdict next-hand seek-victim passed-recent slot-of list-record records live-count listing stores
+    ≡ bytes "fresh\nstored 1 0\nfresh 5 720\nold -7\ndeleted\nrefused 8\nfresh 5 719\nfresh\nstored 1 0\nfresh 4294967295 26\npoked\nold -4611686018427387904\nevicted 7 3 1\nhand\nrefused 8\nlisted 1\n0700000000000000ffffffffffffffffffffffff\nline 18: not understood: number too large\npoked\nno such word\nline 21: not understood: number too large\nslots 0 0 0 0 0 0 0 0\ncounters 3\nitems 7 4294967295 18446744073709551615 0 9 0 0 0\n"
+unfolding replayed reply-to loading load-of run-named weighed loads-run shown meaning starts asks calls cuts turns cut-turns hands lists pokes-slots pokes-counters pokes-items audits plain-read walk-to said said-by first-row fitting taken bound why-not furthest parting takes behind instead lines words pieces filled before same number number-from value all-digits without-comment without-return without-mark mark-length told numbered reason decimal-of signed-of digits record-lines hexes hex-of hex-digit hash fnv fnv-step low-bytes tag-from odd-up spread other-bucket tag place damaged range first good-lengths good-slots good-counters good-items hits hit vacant-place some-live visits next-level hops first-free free-slot lowest climb is-fresh left-of verdict next-hand seek-victim passed-recent slot-of list-record records live-count listing stores
 day-answered = refl
 
 -- a table is judged before the first fresh, fresh, with a cow, in the middle of a set, and with a twin
@@ -103,7 +103,7 @@ dump-judged = bytes "judge\nfresh 8 1 8\njudge\nset 1 5 2 3\njudge\ncut 1 set 1 
 
 pub dump-is-judged : answers false dump-judged
     ≡ bytes "no 1 0\nfresh\nyes\nstored 1 0\nyes\nstored 0 0\nno 3 0\npoked\npoked\npoked\nno 6 0\nline 12: not understood: too many numbers\n"
-unfolding judges judgement count names twin right-word is-stray is-unsought is-doubled is-misshapen replayed reply-to loading load-of run-named weighed loads-run shown meaning starts asks calls cuts turns cut-turns hands lists pokes-slots pokes-counters pokes-items audits plain-read walk-to said said-by first-row fitting taken bound why-not furthest parting takes behind instead lines words pieces filled before same number number-from value all-digits without-comment without-return without-mark mark-length told numbered reason decimal-of signed-of digits record-lines hexes hex-of hex-digit hash fnv fnv-step low-bytes tag-from odd-up spread other-bucket tag place damaged range first good-lengths good-slots good-counters good-items hits hit vacant-place some-live visits next-level hops first-free free-slot lowest climb is-fresh age left-of verdict next-hand seek-victim passed-recent slot-of list-record records live-count listing stores
+unfolding judges judgement count names twin right-word is-stray is-unsought is-doubled is-misshapen replayed reply-to loading load-of run-named weighed loads-run shown meaning starts asks calls cuts turns cut-turns hands lists pokes-slots pokes-counters pokes-items audits plain-read walk-to said said-by first-row fitting taken bound why-not furthest parting takes behind instead lines words pieces filled before same number number-from value all-digits without-comment without-return without-mark mark-length told numbered reason decimal-of signed-of digits record-lines hexes hex-of hex-digit hash fnv fnv-step low-bytes tag-from odd-up spread other-bucket tag place damaged range first good-lengths good-slots good-counters good-items hits hit vacant-place some-live visits next-level hops first-free free-slot lowest climb is-fresh left-of verdict next-hand seek-victim passed-recent slot-of list-record records live-count listing stores
 dump-is-judged = refl
 
 -- a text behind a byte order mark, with the calls shown, and how many of its lines are not understood
@@ -113,7 +113,7 @@ hour = 239 ∷ 187 ∷ 191 ∷ bytes "fresh 8 1 4\n\n# two lines without a call\
 pub hour-answered : (answers true hour
     ≡ bytes "1: fresh 8 1 4 -> fresh\n4: read 1 720 2 -> absent\n5: list 20 -> listed 0\nline 6: not understood: too few numbers\n7: dump -> slots 0 0 0 0 0 0 0 0\ncounters 0\nitems 0 0 0 0\n")
     × (missed hour ≡ 1)
-unfolding missed-in unheard-line echo filled-in in-place next-number replayed reply-to loading load-of run-named weighed loads-run shown-load shown meaning starts asks calls cuts turns cut-turns hands lists pokes-slots pokes-counters pokes-items audits plain-read walk-to said said-by first-row fitting taken bound why-not furthest parting takes behind instead lines words pieces filled before same number number-from value all-digits without-comment without-return without-mark mark-length told numbered reason decimal-of signed-of digits record-lines hexes hex-of hex-digit hash fnv fnv-step low-bytes tag-from odd-up spread other-bucket tag place damaged range first good-lengths good-slots good-counters good-items hits hit vacant-place some-live visits next-level hops first-free free-slot lowest climb is-fresh age left-of verdict next-hand seek-victim passed-recent slot-of list-record records live-count listing stores
+unfolding missed-in unheard-line echo filled-in in-place next-number replayed reply-to loading load-of run-named weighed loads-run shown-load shown meaning starts asks calls cuts turns cut-turns hands lists pokes-slots pokes-counters pokes-items audits plain-read walk-to said said-by first-row fitting taken bound why-not furthest parting takes behind instead lines words pieces filled before same number number-from value all-digits without-comment without-return without-mark mark-length told numbered reason decimal-of signed-of digits record-lines hexes hex-of hex-digit hash fnv fnv-step low-bytes tag-from odd-up spread other-bucket tag place damaged range first good-lengths good-slots good-counters good-items hits hit vacant-place some-live visits next-level hops first-free free-slot lowest climb is-fresh left-of verdict next-hand seek-victim passed-recent slot-of list-record records live-count listing stores
 hour-answered = (refl, refl)
 
 -- a dump is loaded line by line and printed again; the hand stays, the words that are not understood do nothing, and a run may be emptied
@@ -123,13 +123,13 @@ loaded-day = bytes "counters 2\nslots 4063232 0 0 0 0 0 0 0\nhand 1\nitems 1 5 2
 pub loaded-day-answered : (answers false loaded-day
     ≡ bytes "loaded\nloaded\nhand\nloaded\nslots 4063232 0 0 0 0 0 0 0\ncounters 2\nitems 1 5 2 1 0 0 0 0\nline 6: not understood: unknown word\nline 7: not understood: number too large\nfresh 5 720\nevicted 1 4 1\nloaded\nrefused 1\n")
     × (missed loaded-day ≡ 2)
-unfolding missed-in unheard-line echo filled-in in-place next-number replayed reply-to loading load-of run-named weighed loads-run shown-load shown meaning starts asks calls cuts turns cut-turns hands lists pokes-slots pokes-counters pokes-items audits plain-read walk-to said said-by first-row fitting taken bound why-not furthest parting takes behind instead lines words pieces filled before same number number-from value all-digits without-comment without-return without-mark mark-length told numbered reason decimal-of signed-of digits record-lines hexes hex-of hex-digit hash fnv fnv-step low-bytes tag-from odd-up spread other-bucket tag place damaged range first good-lengths good-slots good-counters good-items hits hit vacant-place some-live visits next-level hops first-free free-slot lowest climb is-fresh age left-of verdict next-hand seek-victim passed-recent slot-of list-record records live-count listing stores
+unfolding missed-in unheard-line echo filled-in in-place next-number replayed reply-to loading load-of run-named weighed loads-run shown-load shown meaning starts asks calls cuts turns cut-turns hands lists pokes-slots pokes-counters pokes-items audits plain-read walk-to said said-by first-row fitting taken bound why-not furthest parting takes behind instead lines words pieces filled before same number number-from value all-digits without-comment without-return without-mark mark-length told numbered reason decimal-of signed-of digits record-lines hexes hex-of hex-digit hash fnv fnv-step low-bytes tag-from odd-up spread other-bucket tag place damaged range first good-lengths good-slots good-counters good-items hits hit vacant-place some-live visits next-level hops first-free free-slot lowest climb is-fresh left-of verdict next-hand seek-victim passed-recent slot-of list-record records live-count listing stores
 loaded-day-answered = (refl, refl)
 
 -- the words of a loaded run are not shown again, and nothing is shown of a line that is not understood
 pub loads-shown : answers true (bytes "\nslots 007 # one\nitems 1 -1\ncounters")
     ≡ bytes "2: slots .. -> loaded\nline 3: not understood: unknown word\n4: counters .. -> loaded\n"
-unfolding missed-in unheard-line echo filled-in in-place next-number replayed reply-to loading load-of run-named weighed loads-run shown-load shown meaning starts asks calls cuts turns cut-turns hands lists pokes-slots pokes-counters pokes-items audits plain-read walk-to said said-by first-row fitting taken bound why-not furthest parting takes behind instead lines words pieces filled before same number number-from value all-digits without-comment without-return without-mark mark-length told numbered reason decimal-of signed-of digits record-lines hexes hex-of hex-digit hash fnv fnv-step low-bytes tag-from odd-up spread other-bucket tag place damaged range first good-lengths good-slots good-counters good-items hits hit vacant-place some-live visits next-level hops first-free free-slot lowest climb is-fresh age left-of verdict next-hand seek-victim passed-recent slot-of list-record records live-count listing stores
+unfolding missed-in unheard-line echo filled-in in-place next-number replayed reply-to loading load-of run-named weighed loads-run shown-load shown meaning starts asks calls cuts turns cut-turns hands lists pokes-slots pokes-counters pokes-items audits plain-read walk-to said said-by first-row fitting taken bound why-not furthest parting takes behind instead lines words pieces filled before same number number-from value all-digits without-comment without-return without-mark mark-length told numbered reason decimal-of signed-of digits record-lines hexes hex-of hex-digit hash fnv fnv-step low-bytes tag-from odd-up spread other-bucket tag place damaged range first good-lengths good-slots good-counters good-items hits hit vacant-place some-live visits next-level hops first-free free-slot lowest climb is-fresh left-of verdict next-hand seek-victim passed-recent slot-of list-record records live-count listing stores
 loads-shown = refl
 
 -- the longest runs that the program holds, and longer ones

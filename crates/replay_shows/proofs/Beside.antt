@@ -23,20 +23,20 @@ use Rattle.replay_rows.specs.declared.Turn.{Turn}
 use Rattle.replay_rows.specs.World.{Ample, World, Replied, world, longest}
 use Rattle.replay_rows.specs.Meaning.{Arm, Row, rows, asks, audits, hands, judges, lists, meant, meaning, pokes-slots, pokes-counters, pokes-items, says}
 
--- the rows from 10 on
+-- the rows from 8 on
 module _ {m : Mem} {at : ℕ} {before after : List ℕ} {row : ℕ} (h n : ℕ) (xs : List ℕ) where
-  pub as-hand : {next : ℕ} → row ≡ 10 → Put (line (bytes "hand")) at before after next
+  pub as-hand : {next : ℕ} → row ≡ 8 → Put (line (bytes "hand")) at before after next
       → Replied (meaning row n xs (world m h)) m at before after (record { next = next; hand = getD xs 0 0 })
   unfolding meaning hands
   as-hand e p = rw e (record { put = p; near = omega (arith, p .next); left = refl; hand = refl })
 
-  pub as-list : {r : Turn} → row ≡ 11 → Replied (lists (getD xs 0 0) (world m h)) m at before after r
+  pub as-list : {r : Turn} → row ≡ 9 → Replied (lists (getD xs 0 0) (world m h)) m at before after r
       → Replied (meaning row n xs (world m h)) m at before after r
   unfolding meaning
   as-list e y = rw e y
 
   module _ {next : ℕ} where
-    pub as-poke-slots : {b : Bool} {run : List ℕ} → row ≡ 12 → Poked 4294967295 (getD xs 0 0) (getD xs 1 0) (m .slots) run b
+    pub as-poke-slots : {b : Bool} {run : List ℕ} → row ≡ 10 → Poked 4294967295 (getD xs 0 0) (getD xs 1 0) (m .slots) run b
         → Put (poke-told b) at before after next → next ≤ at + 384 → Arm row n xs m h (mem run (m .counters) (m .items)) at before after next
     unfolding meaning pokes-slots
     as-poke-slots e k p l =
@@ -48,7 +48,7 @@ module _ {m : Mem} {at : ℕ} {before after : List ℕ} {row : ℕ} (h n : ℕ) 
           hand = refl;
         })
 
-    pub as-poke-counters : {b : Bool} {run : List ℕ} → row ≡ 13 → Poked 4294967295 (getD xs 0 0) (getD xs 1 0) (m .counters) run b
+    pub as-poke-counters : {b : Bool} {run : List ℕ} → row ≡ 11 → Poked 4294967295 (getD xs 0 0) (getD xs 1 0) (m .counters) run b
         → Put (poke-told b) at before after next → next ≤ at + 384 → Arm row n xs m h (mem (m .slots) run (m .items)) at before after next
     unfolding meaning pokes-counters
     as-poke-counters e k p l =
@@ -60,7 +60,7 @@ module _ {m : Mem} {at : ℕ} {before after : List ℕ} {row : ℕ} (h n : ℕ) 
           hand = refl;
         })
 
-    pub as-poke-items : {b : Bool} {run : List ℕ} → row ≡ 14 → Poked 18446744073709551615 (getD xs 0 0) (getD xs 1 0) (m .items) run b
+    pub as-poke-items : {b : Bool} {run : List ℕ} → row ≡ 12 → Poked 18446744073709551615 (getD xs 0 0) (getD xs 1 0) (m .items) run b
         → Put (poke-told b) at before after next → next ≤ at + 384 → Arm row n xs m h (mem (m .slots) (m .counters) run) at before after next
     unfolding meaning pokes-items
     as-poke-items e k p l =
@@ -72,17 +72,17 @@ module _ {m : Mem} {at : ℕ} {before after : List ℕ} {row : ℕ} (h n : ℕ) 
           hand = refl;
         })
 
-    pub as-dump : row ≡ 15 → Ample m at before → Put (dump m) at before after next
+    pub as-dump : row ≡ 13 → Ample m at before → Put (dump m) at before after next
         → next ≤ at + 384 + 21 * (length (m .slots) + length (m .counters) + length (m .items)) → Arm row n xs m h m at before after next
     unfolding meaning
     as-dump e a p l = rw e (record { put = p; near = omega (arith, a .slots, a .counters, a .items); left = refl; hand = refl })
 
-    pub as-plain : row ≡ 17 → Put (text (plain-read (m .items) (getD xs 0 0) (getD xs 1 0) (getD xs 2 0))) at before after next → next ≤ at + 384
+    pub as-plain : row ≡ 15 → Put (text (plain-read (m .items) (getD xs 0 0) (getD xs 1 0) (getD xs 2 0))) at before after next → next ≤ at + 384
         → Arm row n xs m h m at before after next
     unfolding meaning audits
     as-plain e p l = rw e (record { put = p; near = omega arith; left = refl; hand = refl })
 
-    pub as-judge : row ≡ 18 → Put (judged (judgement four m)) at before after next → next ≤ at + 384 → Arm row n xs m h m at before after next
+    pub as-judge : row ≡ 16 → Put (judged (judgement four m)) at before after next → next ≤ at + 384 → Arm row n xs m h m at before after next
     unfolding meaning judges
     as-judge e p l = rw e (record { put = p; near = omega arith; left = refl; hand = refl })
 
@@ -103,15 +103,15 @@ beyond (t ∷ ts) zero n xs w h = absurd (omega arith)
 beyond (t ∷ ts) (suc r) n xs w h = beyond ts r n xs w (omega arith)
 
 module _ {m : Mem} {at h next : ℕ} {before after : List ℕ} {row : ℕ} (n : ℕ) (xs : List ℕ) where
-  pub as-not-understood : 10 ≤ row → row ≢ 16 → row ≢ 10 → row ≢ 11 → row ≢ 12 → row ≢ 13 → row ≢ 14 → row ≢ 15 → row ≢ 17 → row ≢ 18 → row ≢ 19
+  pub as-not-understood : 8 ≤ row → row ≢ 14 → row ≢ 8 → row ≢ 9 → row ≢ 10 → row ≢ 11 → row ≢ 12 → row ≢ 13 → row ≢ 15 → row ≢ 16 → row ≢ 17
       → Put (not-understood n (getD xs 0 0)) at before after next → next ≤ at + 384 → Arm row n xs m h m at before after next
   unfolding meaning
-  as-not-understood lo n16 n10 n11 n12 n13 n14 n15 n17 n18 n19 p l =
-      let k : 20 ≤ row = past 19 row (past 18 row (past 17 row (past 16 row (past 15 row (past 14 row (past 13 row (past 12 row (past 11 row (past 10 row lo n10) n11) n12) n13) n14) n15) n16) n17) n18) n19 in
+  as-not-understood lo n14 n8 n9 n10 n11 n12 n13 n15 n16 n17 p l =
+      let k : 18 ≤ row = past 17 row (past 16 row (past 15 row (past 14 row (past 13 row (past 12 row (past 11 row (past 10 row (past 9 row (past 8 row lo n8) n9) n10) n11) n12) n13) n14) n15) n16) n17 in
       rw (beyond rows row n xs (world m h) k) (record { put = p; near = omega arith; left = refl; hand = refl })
 
 -- a blank line says nothing
-pub as-blank : {m : Mem} {at h : ℕ} {before : List ℕ} {row : ℕ} (n : ℕ) (xs : List ℕ) → row ≡ 19 → Arm row n xs m h m at before before at
+pub as-blank : {m : Mem} {at h : ℕ} {before : List ℕ} {row : ℕ} (n : ℕ) (xs : List ℕ) → row ≡ 17 → Arm row n xs m h m at before before at
 unfolding meaning
 as-blank n xs e = rw e (record { put = record { bytes-put = refl; next = omega arith }; near = omega arith; left = refl; hand = refl })
 

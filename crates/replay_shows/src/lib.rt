@@ -117,7 +117,7 @@ fn put_verdict(slots: &[u32], counters: &[u32], items: &[u64], out: &mut [u8], a
     replay_answers::put_judgement(out, at, said)
 }
 
-// The rows from 10 on but for fresh: the hand, a list, a poke, a dump, the plain engine, the judge, a blank line, and one that follows no row.
+// The rows from 8 on but for fresh: the hand, a list, a poke, a dump, the plain engine, the judge, a blank line, and one that follows no row.
 pub fn beside_the_calls(
     row: usize,
     number: u64,
@@ -130,7 +130,7 @@ pub fn beside_the_calls(
     at: usize,
     hand: usize,
 ) -> Turn
-    requires { ⌜ (10 ≤ row) × (row ≢ 16) × (length (now numbers) ≡ 8) × (length (now records) ≡ 81920) ⌝ }
+    requires { ⌜ (8 ≤ row) × (row ≢ 14) × (length (now numbers) ≡ 8) × (length (now records) ≡ 81920) ⌝ }
     requires { ⌜ Ample (mem (now slots) (now counters) (now items)) at (now out) ⌝ }
     ensures { λ r. ⌜ Replied (meaning row number (now (numbers .entry)) (world (mem (now (slots .entry)) (now (counters .entry)) (now (items .entry))) hand))
         (mem (now (slots .exit)) (now (counters .exit)) (now (items .exit))) at (now (out .entry)) (now (out .exit)) r ⌝ }
@@ -139,45 +139,45 @@ pub fn beside_the_calls(
     let b = numbers[1];
     let c = numbers[2];
     match row {
-        10 => Turn {
+        8 => Turn {
             next: replay_print::put_line(out, at, b"hand"),
             hand: a as usize,
         },
-        11 => list_line(a, slots, counters, items, records, out, at, hand),
-        12 => {
+        9 => list_line(a, slots, counters, items, records, out, at, hand),
+        10 => {
             let poked = poke32(slots, a, b);
             Turn {
                 next: replay_answers::put_poked(out, at, poked),
                 hand,
             }
         }
-        13 => {
+        11 => {
             let poked = poke32(counters, a, b);
             Turn {
                 next: replay_answers::put_poked(out, at, poked),
                 hand,
             }
         }
-        14 => {
+        12 => {
             let poked = poke64(items, a, b);
             Turn {
                 next: replay_answers::put_poked(out, at, poked),
                 hand,
             }
         }
-        15 => Turn {
+        13 => Turn {
             next: replay_answers::put_dump(out, at, slots, counters, items),
             hand,
         },
-        17 => Turn {
+        15 => Turn {
             next: put_plain(items, a, b, c, out, at),
             hand,
         },
-        18 => Turn {
+        16 => Turn {
             next: put_verdict(slots, counters, items, out, at),
             hand,
         },
-        19 => Turn { next: at, hand },
+        17 => Turn { next: at, hand },
         _ => Turn {
             next: replay_answers::put_not_understood(out, at, number, a),
             hand,

@@ -188,7 +188,7 @@ module _ {slots counters items : List ℕ} {st : State} (s v i : ℕ) (k : Held 
       refl (f .told) (f .left)
 
 -- the line is a fresh
-pub as-fresh : {slots′ counters′ items′ out out′ : List ℕ} {st r : State} {row : ℕ} (n : ℕ) (xs : List ℕ) (w : World) → row ≡ 16
+pub as-fresh : {slots′ counters′ items′ out out′ : List ℕ} {st r : State} {row : ℕ} (n : ℕ) (xs : List ℕ) (w : World) → row ≡ 14
     → Stepped (starts (getD xs 0 0) (getD xs 1 0) (getD xs 2 0) w) st r slots′ counters′ items′ out out′
     → Stepped (meaning row n xs w) st r slots′ counters′ items′ out out′
 unfolding meaning

@@ -96,7 +96,7 @@ pub fn step(
     ensures { λ r. ⌜ Stepped (meaning row (state .number) (now (numbers .entry)) (in-use (now (slots .entry)) (now (counters .entry)) (now (items .entry)) state)) state r
         (now (slots .exit)) (now (counters .exit)) (now (items .exit)) (now (out .entry)) (now (out .exit)) ⌝ }
 {
-    if row == 16 {
+    if row == 14 {
         return start(
             numbers[0] as usize,
             numbers[1] as usize,

@@ -3,7 +3,6 @@ use Prim.Native.Nat.{ℕ, _≤_}
 use native.Mathlib.Omega.{arith}
 use mathlib.Core.Path.{_≡_, refl}
 use mathlib.Core.Logic.{_≢_}
-use mathlib.Core.Bool.{true, false}
 use mathlib.Core.List.{List}
 use lib.ListN.{getD}
 use Rattle.model.specs.Memory.{Mem}
@@ -32,21 +31,16 @@ turned w e = record { put = w .told .line; near = omega (arith, w .told .room); 
 
 -- row by row
 module _ {m m′ : Mem} {at h next : ℕ} {before after : List ℕ} {row : ℕ} (n : ℕ) (xs : List ℕ) where
-  pub as-set : {g : Grant} → row ≡ 2 → g ≡ grant (getD xs 0 0) (permission (getD xs 1 0)) (getD xs 2 0) (getD xs 3 0) false
+  pub as-set : {g : Grant} → row ≡ 2 → g ≡ grant (getD xs 0 0) (permission (getD xs 1 0)) (getD xs 2 0) (getD xs 3 0)
       → Whole m (set-animal g) m′ at before after next → Arm row n xs m h m′ at before after next
   unfolding meaning
   as-set {g} e q w = rw (e, ← q) (called (set-animal g) w)
-
-  pub as-standing : {g : Grant} → row ≡ 3 → g ≡ grant (getD xs 0 0) (permission (getD xs 1 0)) (getD xs 2 0) (getD xs 3 0) true
-      → Whole m (set-animal g) m′ at before after next → Arm row n xs m h m′ at before after next
-  unfolding meaning
-  as-standing {g} e q w = rw (e, ← q) (called (set-animal g) w)
 
   pub as-serve : row ≡ 0 → Whole m (serve (getD xs 0 0) (getD xs 1 0) (getD xs 2 0)) m′ at before after next → Arm row n xs m h m′ at before after next
   unfolding meaning
   as-serve e w = rw e (called (serve (getD xs 0 0) (getD xs 1 0) (getD xs 2 0)) w)
 
-  pub as-delete : row ≡ 4 → Whole m (delete (getD xs 0 0)) m′ at before after next → Arm row n xs m h m′ at before after next
+  pub as-delete : row ≡ 3 → Whole m (delete (getD xs 0 0)) m′ at before after next → Arm row n xs m h m′ at before after next
   unfolding meaning
   as-delete e w = rw e (called (delete (getD xs 0 0)) w)
 
@@ -56,7 +50,7 @@ module _ {m : Mem} {at h next : ℕ} {before after : List ℕ} {row : ℕ} (n : 
   as-read e t = rw e (asked (read (getD xs 0 0) (getD xs 1 0) (getD xs 2 0)) t)
 
 module _ {m m′ : Mem} {at h : ℕ} {before after : List ℕ} {row : ℕ} {r : Turn} (n : ℕ) (xs : List ℕ) where
-  pub as-evict : row ≤ 5 → row ≢ 0 → row ≢ 1 → row ≢ 2 → row ≢ 3 → row ≢ 4 → Whole m (evict h) m′ at before after (r .next) → r .hand ≡ hand-back h (answer-of m (evict h))
+  pub as-evict : row ≤ 4 → row ≢ 0 → row ≢ 1 → row ≢ 2 → row ≢ 3 → Whole m (evict h) m′ at before after (r .next) → r .hand ≡ hand-back h (answer-of m (evict h))
       → Replied (meaning row n xs (world m h)) m′ at before after r
   unfolding meaning
-  as-evict hi n0 n1 n2 n3 n4 w b = let e : row ≡ 5 = omega arith in rw e (turned w b)
+  as-evict hi n0 n1 n2 n3 w b = let e : row ≡ 4 = omega arith in rw e (turned w b)

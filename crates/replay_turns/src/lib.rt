@@ -8,7 +8,7 @@ ghost use Rattle.replay_rows.specs.World.{Ample, Replied, world};
 ghost use Rattle.replay_rows.specs.Meaning.{meaning};
 use replay_rows::Turn;
 
-// Rows 0 to 5: serve, read, set, delete, evict.
+// Rows 0 to 4: serve, read, set, delete, evict.
 fn whole_call(
     row: usize,
     number: u64,
@@ -20,7 +20,7 @@ fn whole_call(
     at: usize,
     hand: usize,
 ) -> Turn
-    requires { ⌜ (row ≤ 5) × (length (now numbers) ≡ 8) ⌝ }
+    requires { ⌜ (row ≤ 4) × (length (now numbers) ≡ 8) ⌝ }
     requires { ⌜ Ample (mem (now slots) (now counters) (now items)) at (now out) ⌝ }
     ensures { λ r. ⌜ Replied (meaning row number (now (numbers .entry)) (world (mem (now (slots .entry)) (now (counters .entry)) (now (items .entry))) hand))
         (mem (now (slots .exit)) (now (counters .exit)) (now (items .exit))) at (now (out .entry)) (now (out .exit)) r ⌝ }
@@ -43,24 +43,13 @@ fn whole_call(
                 slots,
                 counters,
                 items,
-                replay_calls::granted(a, b, c, d, false),
+                replay_calls::granted(a, b, c, d),
                 out,
                 at,
             ),
             hand,
         },
         3 => Turn {
-            next: replay_calls::answer_set(
-                slots,
-                counters,
-                items,
-                replay_calls::granted(a, b, c, d, true),
-                out,
-                at,
-            ),
-            hand,
-        },
-        4 => Turn {
             next: replay_calls::answer_delete(slots, counters, items, a, out, at),
             hand,
         },
@@ -81,15 +70,15 @@ pub fn on_table(
     at: usize,
     hand: usize,
 ) -> Turn
-    requires { ⌜ (row ≢ 16) × (length (now numbers) ≡ 8) × (length (now records) ≡ 81920) ⌝ }
+    requires { ⌜ (row ≢ 14) × (length (now numbers) ≡ 8) × (length (now records) ≡ 81920) ⌝ }
     requires { ⌜ Ample (mem (now slots) (now counters) (now items)) at (now out) ⌝ }
     ensures { λ r. ⌜ Replied (meaning row number (now (numbers .entry)) (world (mem (now (slots .entry)) (now (counters .entry)) (now (items .entry))) hand))
         (mem (now (slots .exit)) (now (counters .exit)) (now (items .exit))) at (now (out .entry)) (now (out .exit)) r ⌝ }
 {
-    if row <= 5 {
+    if row <= 4 {
         return whole_call(row, number, numbers, slots, counters, items, out, at, hand);
     }
-    if row <= 9 {
+    if row <= 7 {
         return replay_cuts::cut_call(row, number, numbers, slots, counters, items, out, at, hand);
     }
     replay_shows::beside_the_calls(
