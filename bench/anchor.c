@@ -3,7 +3,8 @@
 
 #include <string.h>
 
-#define STANDING UINT64_MAX
+#define NO_MINUTE UINT64_MAX    /* as now */
+#define RETIRED_MARK UINT64_MAX /* as the stamp of an entry */
 #define OVERDUE_MOST (UINT64_C(1) << 62) /* minutes: who is overdue for longer is told this */
 #define VISITS 682  /* 2 + 8 + 32 + 128 + 512 */
 #define PARENTS 170 /* the visits of levels 0 to 3, whose slots lead on */
@@ -113,7 +114,7 @@ INLINE BoughladderReading reading(ANCHOR_LENT, uint64_t animal, uint64_t limit, 
     BoughladderReading r = {0, 0, 0, 0};
     if (!good_shape(sl, cl, il)) { r.refusal = 1; return r; }
     if (animal == 0) { r.refusal = 2; return r; }
-    if (limit > 10080 || now == STANDING) { r.refusal = 3; return r; }
+    if (limit > 10080 || now == NO_MINUTE) { r.refusal = 3; return r; }
     Homes home = homes_of(animal, (uint32_t)(sl / 4), cl);
     if (counters[home.counter] & 1) { r.refusal = 8; return r; }
     if (damaged_homes(slots, home, (uint32_t)(il / 4))) { r.refusal = 4; return r; }
@@ -122,13 +123,11 @@ INLINE BoughladderReading reading(ANCHOR_LENT, uint64_t animal, uint64_t limit, 
     *place = slots[slot] & 65535u;
     const uint64_t *item = items + 4 * *place;
     uint64_t stamp = item[2];
-    if (stamp == STANDING) {
-        r.kind = BOUGHLADDER_FRESH;
-        r.permission = (uint32_t)item[1];
-        r.left = (int64_t)limit;
+    if (stamp > now) { /* as the mark is, at every minute */
+        r.kind = stamp == RETIRED_MARK ? BOUGHLADDER_OLD : BOUGHLADDER_AHEAD;
+        r.left = stamp == RETIRED_MARK ? -(int64_t)OVERDUE_MOST : 0;
         return r;
     }
-    if (stamp > now) { r.kind = BOUGHLADDER_AHEAD; return r; }
     uint64_t age = now - stamp;
     if (age > limit) { /* the sign comes last: a long age is no int64_t */
         uint64_t overdue = age - limit;
@@ -170,25 +169,24 @@ BoughladderFinding anchor_find(ANCHOR_LENT, uint64_t animal) {
 }
 
 INLINE BoughladderSetting setting(ANCHOR_TABLE, uint64_t animal, uint32_t permission, uint64_t issued, uint64_t now,
-                                  uint32_t standing, Budget budget) {
+                                  Budget budget) {
     BoughladderSetting s = {0, 0, 0};
     if (!good_shape(sl, cl, il)) { s.refusal = 1; return s; }
     if (animal == 0) { s.refusal = 2; return s; }
-    if (now == STANDING || issued > now) { s.refusal = 3; return s; }
+    if (now == NO_MINUTE || issued > now) { s.refusal = 3; return s; }
     uint32_t n = (uint32_t)(sl / 4), m = (uint32_t)(il / 4);
     Homes home = homes_of(animal, n, cl);
     uint32_t *counter = counters + home.counter;
     if (*counter & 1) { s.refusal = 8; return s; }
     if (damaged_homes(slots, home, m)) { s.refusal = 4; return s; }
-    uint64_t stamp = standing ? STANDING : issued;
     int hit = hit_of(slots, items, home, animal);
     if (hit >= 0) {
         uint64_t *item = items + 4 * (slots[hit] & 65535u);
-        /* A list that comes late does not undo a later one. What stands has no minute of issue to compare. */
-        if (!standing && item[2] != STANDING && issued < item[2]) { s.refusal = 11; return s; }
+        /* A list that comes late does not undo a later one. What is retired has no minute of issue to compare. */
+        if (issued < item[2] && item[2] != RETIRED_MARK) { s.refusal = 11; return s; }
         store32(&budget, counter, *counter + 1);
         store64(&budget, item + 1, permission);
-        store64(&budget, item + 2, stamp);
+        store64(&budget, item + 2, issued);
         store64(&budget, item + 3, 1);
         store32(&budget, counter, *counter + 1);
         return s;
@@ -232,23 +230,22 @@ INLINE BoughladderSetting setting(ANCHOR_TABLE, uint64_t animal, uint32_t permis
     store32(&budget, counter, *counter + 1);
     store64(&budget, item + 0, animal);
     store64(&budget, item + 1, permission);
-    store64(&budget, item + 2, stamp);
+    store64(&budget, item + 2, issued);
     store64(&budget, item + 3, 1);
     store32(&budget, slots + free_slot, home.tag * 65536u + place);
     store32(&budget, counter, *counter + 1);
     return s;
 }
 
-BoughladderSetting anchor_set(ANCHOR_TABLE, uint64_t animal, uint32_t permission, uint64_t issued, uint64_t now,
-                              uint32_t standing) {
+BoughladderSetting anchor_set(ANCHOR_TABLE, uint64_t animal, uint32_t permission, uint64_t issued, uint64_t now) {
     Budget whole = {0, 0};
-    return setting(slots, sl, counters, cl, items, il, animal, permission, issued, now, standing, whole);
+    return setting(slots, sl, counters, cl, items, il, animal, permission, issued, now, whole);
 }
 
 BoughladderSetting anchor_set_cut(ANCHOR_TABLE, uint64_t animal, uint32_t permission, uint64_t issued, uint64_t now,
-                                  uint32_t standing, uint64_t k) {
+                                  uint64_t k) {
     Budget budget = {1, k};
-    return setting(slots, sl, counters, cl, items, il, animal, permission, issued, now, standing, budget);
+    return setting(slots, sl, counters, cl, items, il, animal, permission, issued, now, budget);
 }
 
 INLINE void take_away(Budget *budget, uint32_t *counter, uint32_t *slot, uint64_t *item) {
@@ -361,12 +358,12 @@ BoughladderReading anchor_plain_read(const uint64_t *items, size_t il, uint64_t 
     BoughladderReading r = {0, 0, 0, 0};
     if (il < 4 || il > 16384 || il % 4 != 0) { r.refusal = 1; return r; }
     if (animal == 0) { r.refusal = 2; return r; }
-    if (limit > 10080 || now == STANDING) { r.refusal = 3; return r; }
+    if (limit > 10080 || now == NO_MINUTE) { r.refusal = 3; return r; }
     size_t i = 0;
     while (i < il && items[i] != animal) i += 4;
     if (i == il) { r.kind = BOUGHLADDER_ABSENT; return r; }
     uint64_t stamp = items[i + 2];
-    if (stamp == STANDING) stamp = now; /* age 0: the whole limit is left */
+    if (stamp == RETIRED_MARK) { r.kind = BOUGHLADDER_OLD; r.left = -(INT64_C(1) << 62); return r; }
     if (stamp > now) { r.kind = BOUGHLADDER_AHEAD; return r; }
     uint64_t age = now - stamp, most = limit + (UINT64_C(1) << 62); /* an older one is told as if it were so old */
     r.left = (int64_t)limit - (int64_t)(age < most ? age : most);

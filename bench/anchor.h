@@ -16,10 +16,9 @@ BoughladderReading anchor_read(ANCHOR_LENT, uint64_t animal, uint64_t limit, uin
 BoughladderReading anchor_serve(const uint32_t *slots, size_t sl, const uint32_t *counters, size_t cl, uint64_t *items,
                                 size_t il, uint64_t animal, uint64_t limit, uint64_t now);
 BoughladderFinding anchor_find(ANCHOR_LENT, uint64_t animal);
-BoughladderSetting anchor_set(ANCHOR_TABLE, uint64_t animal, uint32_t permission, uint64_t issued, uint64_t now,
-                              uint32_t standing);
+BoughladderSetting anchor_set(ANCHOR_TABLE, uint64_t animal, uint32_t permission, uint64_t issued, uint64_t now);
 BoughladderSetting anchor_set_cut(ANCHOR_TABLE, uint64_t animal, uint32_t permission, uint64_t issued, uint64_t now,
-                                  uint32_t standing, uint64_t k);
+                                  uint64_t k);
 uint32_t anchor_delete(ANCHOR_TABLE, uint64_t animal);
 uint32_t anchor_delete_cut(ANCHOR_TABLE, uint64_t animal, uint64_t k);
 BoughladderEvicting anchor_evict(ANCHOR_TABLE, size_t hand);

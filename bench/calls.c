@@ -14,6 +14,7 @@
 #define HERD 960
 #define LONGEST 70000 /* characters of the longest tail of a line: more than 16 bits count */
 #define FAR (UINT64_C(1) << 62) /* minutes overdue; beyond them the answer stays the same */
+#define MARK UINT64_MAX /* the stamp of a retired entry: no set stores it, a dump or a poke brings it */
 
 static uint64_t state;
 
@@ -51,7 +52,7 @@ static void a_day(uint64_t count) {
         } else if (kind < 84) {
             printf("read %u 720 %u\n", one_in(10) ? stranger : *animal, now);
         } else if (kind < 97) {
-            printf("set %u %u %u %u%s\n", *animal, permission, issued, now, one_in(100) ? " standing" : "");
+            printf("set %u %u %u %u\n", *animal, permission, issued, now);
         } else if (kind < 99) {
             printf("delete %u\n", *animal);
             leaving = animal;
@@ -163,6 +164,11 @@ static void poke(void) {
         break;
     default:
         word("items");
+        if (one_in(2)) { /* a stamp becomes the mark, or the last minute */
+            number(4 * below(items / 4) + 2);
+            number(MARK - one_in(4));
+            break;
+        }
         number(below(items + 2));
         number(one_in(4) ? any() >> below(64) : one_in(2) ? an_animal() : below(3));
     }
@@ -184,7 +190,7 @@ static void a_set(void) {
     number(one_in(20) ? UINT32_MAX - 2 + below(5) : below(5));
     number(issued);
     number(now);
-    if (one_in(6)) word("standing");
+    if (one_in(30)) word("standing"); /* not understood since version 4 */
 }
 
 static void a_write(void) {
@@ -233,7 +239,7 @@ static void a_run(void) {
     int slips = length < 50 && one_in(3), zeros = one_in(2) || length > 200;
     word(runs[which]);
     for (; length > 0; length--) {
-        uint64_t value = zeros ? 0 : one_in(4) ? of_any_size() : below(3);
+        uint64_t value = zeros ? 0 : one_in(4) ? of_any_size() : which == 2 && one_in(6) ? MARK : below(3);
         if (slips) number(value);
         else right_number(which < 2 ? (uint32_t)value : value);
     }
@@ -296,6 +302,7 @@ static void enter(uint64_t place, uint64_t animal) {
         *slot = (uint64_t)tag << 16 | place;
         if (animal == 0) return;
         item[0] = last = animal, item[1] = below(5), item[2] = last_issued = a_minute(), item[3] = below(2);
+        if (one_in(3)) item[2] = MARK - one_in(8); /* or the last minute */
         return;
     }
 }

@@ -44,7 +44,7 @@ static Table ours, theirs, others;
             t->sum += who##_plain_read(who##_ITEMS, i % 10 ? held[i] : i + 1, LIMIT, NOW).kind;                         \
     }                                                                                                                   \
     WORK(who##_updates)                                                                                                 \
-        for (size_t i = 0; i < CALLS; i++) t->sum += who##_set(who##_TABLE, held[i], 1, NOW, NOW, 0).refusal;           \
+        for (size_t i = 0; i < CALLS; i++) t->sum += who##_set(who##_TABLE, held[i], 1, NOW, NOW).refusal;              \
     }                                                                                                                   \
     WORK(who##_deletes)                                                                                                 \
         for (size_t i = 0; i < CALLS; i++) t->sum += who##_delete(who##_TABLE, held[i]);                                \
@@ -53,7 +53,7 @@ static Table ours, theirs, others;
     KIND(who, tags)                                                                                                     \
     KIND(who, smalls)                                                                                                   \
     WORK(who##_new) /* into the places that the deletes left, each the lowest vacant one */                             \
-        for (size_t i = 0; i < CALLS; i++) t->sum += who##_set(who##_TABLE, held[i], 1, NOW, NOW, 0).visits;            \
+        for (size_t i = 0; i < CALLS; i++) t->sum += who##_set(who##_TABLE, held[i], 1, NOW, NOW).visits;               \
     }
 #define EVICTS(who)                                                                                                     \
     WORK(who##_evicts)                                                                                                  \
@@ -77,7 +77,7 @@ static void fill(uint64_t (*number)(void)) {
     memset(t, 0, sizeof *t);
     for (herd = 0; herd < M * 9 / 10;) {
         uint64_t animal = number();
-        if (boughladder_set(TABLE, animal, 1, NOW - any() % 1000, NOW, 0).refusal == 0) held[herd++] = animal;
+        if (boughladder_set(TABLE, animal, 1, NOW - any() % 1000, NOW).refusal == 0) held[herd++] = animal;
     }
     theirs = others = ours;
 }

@@ -89,7 +89,7 @@ static void fill(uint64_t (*number)(void)) {
     memset(t, 0, sizeof *t);
     for (herd = 0; herd < (size_t)M * LOAD / 100;) {
         uint64_t animal = number();
-        if (boughladder_set(TABLE, animal, (uint32_t)any(), NOW - (LIMIT - LEFT), NOW, 0).refusal == 0) held[herd++] = animal;
+        if (boughladder_set(TABLE, animal, (uint32_t)any(), NOW - (LIMIT - LEFT), NOW).refusal == 0) held[herd++] = animal;
     }
     for (int k = 1; k < TABLES; k++) tables[k] = *t;
 }

@@ -13,7 +13,11 @@
  * The numbers of a herd are scattered, or of one length in bytes, or of every length; those of a length have edges and bytes
  * of 0 among them. For a hash may take short numbers, or bytes of 0, another way.
  * Limits and minutes are often such that the answer turns there: stamped now, the last good minute, as long overdue as is
- * told, and where a difference of 64 bits turns over. The turns that were met are counted.
+ * told, and where a difference of 64 bits turns over. The turns that were met are counted, and in a whole run (100 percent or
+ * more) none may be missing.
+ * In every episode one entry in RETIRE_SHARE is retired when it has been set: its stamp becomes the mark, as if it were a
+ * standing permission from before version 4. No call stores that number. As stamps are no condition of the judge, a clean
+ * table stays clean.
  *
  * Behind each call come plain reads of our memory, before its words are compared, so that a word that they write shows:
  *     clean    where finished calls from fresh have made the table, in an episode of any kind: of the call's animal, of 0,
@@ -43,6 +47,8 @@
 #define JUDGE_SHARE 64
 #define NOWHERE SIZE_MAX
 #define FAR (UINT64_C(1) << 62) /* minutes overdue; beyond them the answer stays the same */
+#define MARK UINT64_MAX /* the stamp of a retired entry */
+#define RETIRE_SHARE 8
 
 enum { OURS, ANCHOR, SECOND, TABLES };
 enum { CLEAN, CUT, POKED, GARBAGE, KINDS };
@@ -52,10 +58,16 @@ static const char *const call_names[CALLS] = {"fresh", "read", "serve", "plain_r
 static const char *const table_names[TABLES] = {"ours", "anchor", "second"};
 static const char *const kind_names[KINDS] = {"clean", "cut", "poked", "garbage"};
 
-/* What a set met that was stored or refused 11: the held stamp, beside the minute of issue where neither stands. */
-enum { NOBODY, EARLIER, EQUAL, LATER, HELD_STANDS, NEW_STANDS, BOTH_STAND, MEETINGS };
-static const char *const meeting_names[MEETINGS] = {"none held", "earlier", "equal", "later", "standing", "new one standing",
-                                                    "both standing"};
+/* What a set met that was stored or refused 11: the held stamp beside the minute of issue, or a retired entry and which issue. */
+enum { NOBODY, EARLIER, EQUAL, LATER, MARK_AT_0, MARK_AT_LAST, MARK_NOW, MARK_BEFORE, MEETINGS };
+static const char *const meeting_names[MEETINGS] = {"none held",
+                                                    "earlier",
+                                                    "equal",
+                                                    "later",
+                                                    "retired, issued at 0",
+                                                    "retired, issued at 2^64 - 2",
+                                                    "retired, issued now",
+                                                    "retired, issued before now"};
 
 /* What read says where plain is asked the same on memory that is not clean. */
 enum { ALIKE, BUSY, DAMAGED, UNSEEN, ELSEWHERE, BESIDES };
@@ -63,14 +75,14 @@ static const char *const beside_names[BESIDES] = {"the same", "refused 8", "refu
                                                   "another permission or stamp"};
 
 /* Where a question meets a stamp: the minutes left, then other turns. The first ones stand in the order of `overdue`. */
-enum { WHOLE = 7, LIMIT_0, STANDS, OLDEST, TURNS };
+enum { WHOLE = 7, LIMIT_0, RETIRED, NEARLY, OLDEST, TURNS };
 static const uint64_t overdue[WHOLE] = {UINT64_MAX, 0, 1, FAR - 1, FAR, FAR + 1, 2 * FAR}; /* modulo 2^64 */
 static const char *const turn_names[TURNS] = {"1", "0", "-1", "-2^62 + 1", "-2^62", "a minute less", "2^63 overdue",
-                                              "the whole limit", "limit 0", "standing", "age 2^64 - 2"};
+                                              "the whole limit", "limit 0", "retired", "stamp 2^64 - 2", "age 2^64 - 2"};
 
 /* The plain reads behind the calls; on memory that is not clean, what the places that were found are like, too. */
 typedef struct {
-    uint64_t asked, by_answer[4], by_refusal[4], by_turn[TURNS], shorter, last, standing, wide, twins;
+    uint64_t asked, by_answer[4], by_refusal[4], by_turn[TURNS], shorter, last, wide, twins;
 } Plains;
 
 /* What is judged: tables that must get a yes, with one fault or not; other memory, as it is or bent. */
@@ -98,7 +110,7 @@ typedef struct {
     int call;
     size_t sl, cl, il, hand, buffer_length;
     uint64_t animal, limit, issued, now, k;
-    uint32_t permission, standing;
+    uint32_t permission;
 } Call;
 
 static Table tables[TABLES], *const ours = &tables[OURS];
@@ -106,9 +118,10 @@ static uint64_t pool[POOL];
 static size_t n, v, m, pool_size, used; /* used: 64-bit words of the block in use */
 static uint64_t state, seed = 1, percent = 100;
 static uint64_t calls, words, by_call[CALLS], by_refusal[12], by_moves[5], by_load[11], by_kind[KINDS], by_answer[4];
-static uint64_t by_turn[TURNS], by_meeting[MEETINGS], most_visits, large_calls, stopped_cuts, issued_later, asked_after, bytes;
+static uint64_t by_turn[TURNS], by_meeting[2][MEETINGS] /* by cut */, by_mark[CALLS];
+static uint64_t most_visits, large_calls, stopped_cuts, issued_later, asked_after, bytes;
 static uint64_t by_beside[BESIDES], by_bytes[CALLS][9][2]; /* by the bytes of the number: all, those held or stored */
-static int clean; /* whether finished calls from fresh have made the table, all with the lengths that fresh got */
+static int clean; /* whether finished calls from fresh have made the table, all with the lengths that fresh got; marks aside */
 static Plains plains[2]; /* by clean */
 static uint64_t by_verdict[JUDGED][9], by_anchor, judge_state; /* its own draws, so that the calls stay the same */
 
@@ -274,8 +287,8 @@ static Reply make(const Call *c, int who) {
     }
     case SET: case SETCUT: {
         BoughladderSetting x =
-            c->call == SET ? ANY(set, c->animal, c->permission, c->issued, c->now, c->standing)
-                           : EITHER(set_cut, TABLE, c->animal, c->permission, c->issued, c->now, c->standing, c->k);
+            c->call == SET ? ANY(set, c->animal, c->permission, c->issued, c->now)
+                           : EITHER(set_cut, TABLE, c->animal, c->permission, c->issued, c->now, c->k);
         r.refusal = x.refusal; r.visits = x.visits; r.moves = x.moves;
         break;
     }
@@ -306,9 +319,9 @@ static void differs(const Call *c, const Reply *a, const Reply *b, int who, int 
     const char *name = table_names[who];
     printf("DIFFERENCE at call %" PRIu64 ", seed %" PRIu64 ", memory %s, N %zu V %zu M %zu\n", calls, seed, kind_names[kind], n, v, m);
     printf("  %s lengths %zu %zu %zu animal %" PRIu64 " permission %" PRIu32 " limit %" PRIu64 " issued %" PRIu64 " now %" PRIu64
-           " standing %" PRIu32 " hand %zu k %" PRIu64 " buffer %zu\n",
-           call_names[c->call], c->sl, c->cl, c->il, c->animal, c->permission, c->limit, c->issued, c->now, c->standing, c->hand,
-           c->k, c->buffer_length);
+           " hand %zu k %" PRIu64 " buffer %zu\n",
+           call_names[c->call], c->sl, c->cl, c->il, c->animal, c->permission, c->limit, c->issued, c->now, c->hand, c->k,
+           c->buffer_length);
     tell("ours", a);
     tell(name, b);
     int told = 0;
@@ -371,8 +384,8 @@ static int meeting(const Call *c) {
     BoughladderFinding f = anchor_find(ours->slots, c->sl, ours->counters, c->cl, ours->items, c->il, c->animal);
     if (f.refusal != 0 || f.kind != BOUGHLADDER_AT_PLACE) return NOBODY;
     uint64_t stamp = ours->items[4 * f.place + 2];
-    if (stamp == UINT64_MAX) return c->standing ? BOTH_STAND : HELD_STANDS;
-    if (c->standing) return NEW_STANDS;
+    if (stamp == MARK)
+        return c->issued == 0 ? MARK_AT_0 : c->issued == MARK - 1 ? MARK_AT_LAST : c->issued == c->now ? MARK_NOW : MARK_BEFORE;
     return stamp < c->issued ? EARLIER : stamp == c->issued ? EQUAL : LATER;
 }
 
@@ -387,18 +400,17 @@ static Call a_call(int kind, int growing, size_t hand, const Call *last) {
     c.now = one_in(100) ? UINT64_MAX - below(3) : one_in(100) ? below(3) : 20000 + below(14000);
     if (one_in(200)) c.now += any() << 32; /* a small minute, if somebody keeps 32 bits of it */
     c.issued = an_issue(c.now);
-    c.standing = one_in(10) ? (uint32_t)any() : 0;
     if (one_in(4)) { /* an animal that has a place, and often a minute at which the answer turns, or an issue at her stamp */
         const uint64_t *item = ours->items + 4 * below(m);
         if (item[0] != 0) c.animal = item[0];
         if (one_in(2)) c.now = a_turn(item[2], c.limit);
-        if (item[2] != UINT64_MAX && !one_in(3)) c.issued = item[2] - 1 + below(3);
+        if (item[2] == MARK ? one_in(3) : !one_in(3)) c.issued = item[2] - 1 + below(3);
         if (c.issued > c.now && !one_in(10)) c.now = c.issued + below(2);
     } else if (one_in(8)) { /* the same animal again: a read after a refusal, a list that comes twice */
         c.animal = last->animal;
         if (one_in(2)) c.issued = last->issued, c.now = last->now;
     }
-    c.k = one_in(6) ? below(5000) : below(26);
+    c.k = one_in(6) ? below(5000) : one_in(30) ? UINT64_MAX - below(2) : below(26);
     uint64_t dice = below(100);
     if (dice < 12) c.call = READ;
     else if (dice < 14) c.call = PLAIN;
@@ -453,6 +465,38 @@ static const uint64_t *a_live_place(size_t live) {
     return ours->items + 4 * p;
 }
 
+/* Retires the entry that was set, of all tables alike; the hand may have passed it. */
+static void retire(const Call *c) {
+    BoughladderFinding f = anchor_find(ours->slots, c->sl, ours->counters, c->cl, ours->items, c->il, c->animal);
+    uint64_t recent = below(2);
+    for (int k = 0; k < TABLES && f.kind == BOUGHLADDER_AT_PLACE; k++)
+        tables[k].items[4 * f.place + 2] = MARK, tables[k].items[4 * f.place + 3] = recent;
+}
+
+/* Whether a call met a retired entry, a serve one where a store would show. Ours was made; the anchor's memory is as before. */
+static int met_mark(const Call *c, const Reply *told) {
+    const Table *t = &tables[ANCHOR];
+    size_t place = 0, places = c->il / 4;
+    if (told->refusal != 0) return 0;
+    switch (c->call) {
+    case FRESH: return 0;
+    case LIST:
+        while (place < places && (t->items[4 * place] == 0 || t->items[4 * place + 2] != MARK)) place++;
+        break;
+    case PLAIN:
+        while (place < places && t->items[4 * place] != c->animal) place++;
+        break;
+    case EVICT: case EVICTCUT: place = (told->hand + places - 1) % places; break;
+    default: {
+        BoughladderFinding f = anchor_find(t->slots, c->sl, t->counters, c->cl, t->items, c->il, c->animal);
+        place = f.kind == BOUGHLADDER_AT_PLACE ? f.place : places;
+    }
+    }
+    if (place == places) return 0;
+    const uint64_t *item = t->items + 4 * place;
+    return item[2] == MARK && (c->call != SERVE || item[3] != 1);
+}
+
 static int alike(BoughladderReading a, BoughladderReading b) {
     return a.refusal == b.refusal && a.kind == b.kind && a.permission == b.permission && a.left == b.left;
 }
@@ -474,7 +518,8 @@ static void plain_differs(const Call *q, BoughladderReading plain, const char *w
 /* A question that was not refused and met such a stamp. */
 static void count_turn(uint64_t *turns, const Call *q, uint64_t stamp) {
     uint64_t age = q->now - stamp;
-    turns[STANDS] += stamp == UINT64_MAX;
+    turns[RETIRED] += stamp == MARK;
+    turns[NEARLY] += stamp == MARK - 1;
     if (stamp > q->now) return;
     for (int i = 0; i < WHOLE; i++) turns[i] += age - q->limit == overdue[i];
     turns[WHOLE] += age == 0;
@@ -496,7 +541,6 @@ static void count_plain(const Call *q, BoughladderReading plain) {
     count_turn(p->by_turn, q, item[2]);
     if (clean) return;
     p->last += item + 4 == end;
-    p->standing += item[2] == UINT64_MAX;
     p->wide += item[1] > UINT32_MAX;
     for (item += 4; item < end; item += 4)
         if (item[0] == q->animal) {
@@ -659,7 +703,9 @@ static size_t plant(uint64_t condition) {
         plant64(ours->items + 4 * place + 1, one_in(3) ? UINT64_C(1) << 32 : (1 + below(UINT32_MAX)) << 32 | tag);
         return place;
     default:
-        if (vacant != NOWHERE) plant64(ours->items + 4 * vacant + 1 + tag % 3, one_in(3) ? UINT32_MAX : 1 + below(9));
+        if (vacant != NOWHERE) /* a mark too, but not as a permission: that would be 7 */
+            plant64(ours->items + 4 * vacant + 1 + tag % 3,
+                    tag % 3 != 0 && one_in(4) ? MARK : one_in(3) ? UINT32_MAX : 1 + below(9));
         return vacant;
     }
 }
@@ -763,6 +809,7 @@ static void episode(int large, int kind, uint64_t length) {
         Reply told = make(&c, OURS);
         calls++;
         clean = stays_clean(&c, &told);
+        int marked = met_mark(&c, &told);
         audit(&c, kind, load, !large || i % LARGE_SHARE == 0);
         if (!large || i % JUDGE_SHARE == 0) {
             uint64_t drawn = state;
@@ -782,6 +829,7 @@ static void episode(int large, int kind, uint64_t length) {
             if (!same) differs(&c, &told, &other, k, kind);
         }
         by_call[c.call]++;
+        by_mark[c.call] += (uint64_t)marked;
         uint64_t *by_length = by_bytes[c.call][bytes_of(c.animal)];
         by_length[0]++;
         by_length[1] += told.refusal == 11 || (told.refusal == 0 && (told.kind != 0 || c.call == SET || c.call == DELETE));
@@ -796,7 +844,7 @@ static void episode(int large, int kind, uint64_t length) {
             if (f.kind == BOUGHLADDER_AT_PLACE) count_turn(by_turn, &c, ours->items[4 * f.place + 2]);
         }
         late = told.refusal == 11;
-        if (setting && (told.refusal == 0 || late)) by_meeting[met]++;
+        if (setting && (told.refusal == 0 || late)) by_meeting[c.call == SETCUT][met]++;
         issued_later += setting && told.refusal == 3 && c.now != UINT64_MAX;
         if (setting && told.refusal == 0 && told.visits > 0) {
             by_moves[told.moves]++;
@@ -804,11 +852,18 @@ static void episode(int large, int kind, uint64_t length) {
         }
         if ((c.call == SETCUT || c.call == DELETECUT || c.call == EVICTCUT) && told.refusal == 0) stopped_cuts++;
         if ((c.call == EVICT || c.call == EVICTCUT) && told.refusal == 0) hand = told.hand;
+        if (c.call == SET && told.refusal == 0 && one_in(RETIRE_SHARE)) retire(&c);
     }
 }
 
-static void tell_turns(const uint64_t *turns) {
-    for (int i = 0; i < TURNS; i++) printf("  %s: %" PRIu64, turn_names[i], turns[i]);
+/* In a whole run each of these counts must come up: a 0 would mean that a rule was never tried. */
+static int missing;
+
+static void tell_counts(const char *const *names, const uint64_t *counts, int from, int to) {
+    for (int i = from; i < to; i++) {
+        printf("  %s: %" PRIu64, names[i], counts[i]);
+        missing += counts[i] == 0 && percent >= 100;
+    }
 }
 
 int main(int argc, char **argv) {
@@ -830,11 +885,15 @@ int main(int argc, char **argv) {
     printf("\nrefusals:");
     for (int i = 0; i < 12; i++) printf("  %d: %" PRIu64, i, by_refusal[i]);
     printf("\nsets that were stored or refused 11, by the held stamp:");
-    for (int i = 0; i < MEETINGS; i++) printf("  %s %" PRIu64, meeting_names[i], by_meeting[i]);
+    tell_counts(meeting_names, by_meeting[0], 0, MEETINGS);
+    printf("\n  cut:");
+    tell_counts(meeting_names, by_meeting[1], 0, MEETINGS);
+    printf("\ncalls that met a retired entry (serve: one whose recent word is not 1; list: one at least):");
+    tell_counts(call_names, by_mark, FRESH + 1, CALLS);
     printf("\nsets refused 3 for an issue after now: %" PRIu64 "\nreads and serves of the animal right after 11: %" PRIu64, issued_later, asked_after);
     printf("\nread and serve:  absent %" PRIu64 "  fresh %" PRIu64 "  old %" PRIu64 "  ahead %" PRIu64, by_answer[0], by_answer[1], by_answer[2], by_answer[3]);
     printf("\n  left:");
-    tell_turns(by_turn);
+    tell_counts(turn_names, by_turn, 0, TURNS);
     printf("\nby the bytes of the animal's number that are in use (in brackets: she was held, or stored):");
     static const int shown[] = {READ, SERVE, SET, DELETE};
     for (int i = 0; i < 4; i++) {
@@ -850,10 +909,10 @@ int main(int argc, char **argv) {
                p->by_answer[1], p->by_answer[2], p->by_answer[3]);
         for (int k = 1; k < 4; k++) printf("  %d: %" PRIu64, k, p->by_refusal[k]);
         printf("\n    left:");
-        tell_turns(p->by_turn);
+        tell_counts(turn_names, p->by_turn, 0, TURNS);
     }
-    printf("\n    at the last place %" PRIu64 "  standing %" PRIu64 "  permission word above 32 bits %" PRIu64 "  twins behind her %" PRIu64
-           "  shorter items %" PRIu64, plains[0].last, plains[0].standing, plains[0].wide, plains[0].twins, plains[0].shorter);
+    printf("\n    at the last place %" PRIu64 "  permission word above 32 bits %" PRIu64 "  twins behind her %" PRIu64
+           "  shorter items %" PRIu64, plains[0].last, plains[0].wide, plains[0].twins, plains[0].shorter);
     printf("\n    where read says:");
     for (int i = 0; i < BESIDES; i++) printf("  %s %" PRIu64, beside_names[i], by_beside[i]);
     printf("\njudged behind the calls, on M 4096 behind one in %d, by ours and second alike, and %" PRIu64 " times by anchor too:",
@@ -870,5 +929,6 @@ int main(int argc, char **argv) {
     printf("calls by load (live places of min(M, 4N), in tenths):");
     for (int i = 0; i < 11; i++) printf("  %d0%%: %" PRIu64, i, by_load[i]);
     printf("\n");
-    return 0;
+    if (missing > 0) printf("MISSING: %d of the counts above that must come up are 0\n", missing);
+    return missing > 0;
 }

@@ -49,7 +49,7 @@ static inline void settle(Table *t, unsigned load) {
     boughladder_fresh(TABLE);
     for (herd = 0; herd < want;) {
         uint64_t animal = any(), stamp = NOW - any() % 1000, permission = any();
-        if (boughladder_set(TABLE, animal, (uint32_t)permission, stamp, NOW, 0).refusal == 0) held[herd++] = animal;
+        if (boughladder_set(TABLE, animal, (uint32_t)permission, stamp, NOW).refusal == 0) held[herd++] = animal;
     }
 }
 

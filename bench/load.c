@@ -37,7 +37,7 @@ static void fill_one(size_t shape) {
     uint64_t animal = any();
     for (size_t animals = 0;; animals++, animal = in_row ? animal + 1 : any()) {
         Stretch *s = &stretches[shape][animals];
-        BoughladderSetting set = boughladder_set(slots, 4 * n, counters, v, items, 4 * m, animal, 1, NOW, NOW, 0);
+        BoughladderSetting set = boughladder_set(slots, 4 * n, counters, v, items, 4 * m, animal, 1, NOW, NOW);
         if (set.refusal == BOUGHLADDER_NO_PLACE) return;
         if (set.refusal == BOUGHLADDER_NO_ROOM) {
             first_refusals[shape][refused[shape]++] = animals;

@@ -38,8 +38,10 @@ struct Item {
 
 /* Fresh, old or ahead, as the order says it of a held animal, and what is left: no less than -2^62. */
 static BoughladderReading judge(const Item &item, uint64_t limit, uint64_t now) {
-    if (item.stamp == UINT64_MAX) return {0, BOUGHLADDER_FRESH, item.permission, (int64_t)limit};
-    if (item.stamp > now) return {0, BOUGHLADDER_AHEAD, 0, 0};
+    if (item.stamp > now) { /* the mark is later than every minute, so it is looked for only here */
+        if (item.stamp == BOUGHLADDER_RETIRED_MARK) return {0, BOUGHLADDER_OLD, 0, BOUGHLADDER_LEAST_LEFT};
+        return {0, BOUGHLADDER_AHEAD, 0, 0};
+    }
     uint64_t age = now - item.stamp;
     if (age > limit) return {0, BOUGHLADDER_OLD, 0, -(int64_t)std::min(age - limit, UINT64_C(1) << 62)};
     return {0, BOUGHLADDER_FRESH, item.permission, (int64_t)(limit - age)};

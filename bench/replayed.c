@@ -12,7 +12,7 @@
 #define COUNTERS_MOST 1024
 #define ITEMS_MOST 4096
 #define BUFFER_MOST 81920
-#define WORDS 9 /* one more than the longest call has, a run aside, so that a word too many is seen */
+#define WORDS 8 /* one more than the longest call has, a run aside, so that a word too many is seen */
 
 /* The longest answer is a dump of the largest table: 11 characters for a 32-bit word with its space, 21 for a 64-bit one. */
 #define ANSWER_MOST (64 + 11 * (SLOTS_MOST + COUNTERS_MOST) + 21 * ITEMS_MOST)
@@ -152,10 +152,9 @@ static int set(const Word *words, size_t count, const uint64_t *k) {
     uint64_t n[4];
     for (size_t i = 0; i < 4; i++)
         if (!next_number(words, count, i, i == 1 ? UINT32_MAX : UINT64_MAX, n + i)) return 0;
-    uint32_t standing = count > 4 && is(words[4], "standing");
-    if (!ends_at(words, count, 4 + standing)) return 0;
-    BoughladderSetting s = k ? anchor_set_cut(TABLE, n[0], (uint32_t)n[1], n[2], n[3], standing, *k)
-                             : anchor_set(TABLE, n[0], (uint32_t)n[1], n[2], n[3], standing);
+    if (!ends_at(words, count, 4)) return 0;
+    BoughladderSetting s = k ? anchor_set_cut(TABLE, n[0], (uint32_t)n[1], n[2], n[3], *k)
+                             : anchor_set(TABLE, n[0], (uint32_t)n[1], n[2], n[3]);
     if (tell_refusal(s.refusal)) return 1;
     TELL("stored");
     tell_next(s.visits);

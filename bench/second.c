@@ -3,7 +3,8 @@
 
 #include <string.h>
 
-#define STANDING UINT64_MAX
+#define NO_MINUTE UINT64_MAX    /* as now */
+#define RETIRED_MARK UINT64_MAX /* as a stamp */
 #define FAR (UINT64_C(1) << 62) /* minutes beyond the limit; beyond them the answer stays the same */
 #define VISITS 682  /* 2 + 8 + 32 + 128 + 512 */
 #define PARENTS 170 /* the visits of levels 0 to 3, whose slots lead on */
@@ -81,18 +82,19 @@ static inline BoughladderReading reading(const BoughladderTable *t, uint64_t ani
     BoughladderReading r = {0, 0, 0, 0};
     if (!good_shape(t)) { r.refusal = 1; return r; }
     if (animal == 0) { r.refusal = 2; return r; }
-    if (limit > 10080 || now == STANDING) { r.refusal = 3; return r; }
+    if (limit > 10080 || now == NO_MINUTE) { r.refusal = 3; return r; }
     Homes home = homes_of(t, animal);
     if (t->counters[home.counter] & 1) { r.refusal = 8; return r; }
     size_t slot;
     int64_t place = hit_of(t, home, animal, &slot);
     if (place == DAMAGED) { r.refusal = 4; return r; }
     if (place == ABSENT) { r.kind = BOUGHLADDER_ABSENT; return r; }
-    uint64_t stamp = t->items[4 * place + 2], age = 0;
+    uint64_t stamp = t->items[4 * place + 2], age = now - stamp;
     *found = place;
-    if (stamp != STANDING) {
-        if (stamp > now) { r.kind = BOUGHLADDER_AHEAD; return r; }
-        age = now - stamp;
+    if (stamp > now) { /* the mark is later than every minute, so it is looked for only here */
+        r.kind = BOUGHLADDER_AHEAD;
+        if (stamp == RETIRED_MARK) r.kind = BOUGHLADDER_OLD, r.left = -(int64_t)FAR;
+        return r;
     }
     r.left = (int64_t)(limit - age); /* modulo 2^64, so it is right from the limit down to -2^63 */
     if (age > limit) {
@@ -117,26 +119,23 @@ BoughladderReading second_serve(const BoughladderTable *t, uint64_t animal, uint
     return r;
 }
 
-BoughladderSetting second_set(const BoughladderTable *t, uint64_t animal, uint32_t permission, uint64_t issued, uint64_t now,
-                              uint32_t standing) {
+BoughladderSetting second_set(const BoughladderTable *t, uint64_t animal, uint32_t permission, uint64_t issued, uint64_t now) {
     BoughladderSetting s = {0, 0, 0};
     if (!good_shape(t)) { s.refusal = 1; return s; }
     if (animal == 0) { s.refusal = 2; return s; }
-    if (now < issued || now == STANDING) { s.refusal = 3; return s; }
+    if (now < issued || now == NO_MINUTE) { s.refusal = 3; return s; }
     Homes home = homes_of(t, animal);
     uint32_t n = (uint32_t)(t->slots_length / 4), m = (uint32_t)(t->items_length / 4);
     if (t->counters[home.counter] & 1) { s.refusal = 8; return s; }
     size_t to;
     int64_t hit = hit_of(t, home, animal, &to);
-    uint64_t stamp = standing ? STANDING : issued;
     if (hit == DAMAGED) { s.refusal = 4; return s; }
     if (hit != ABSENT) {
         uint64_t *item = t->items + 4 * hit;
-        /* Nothing is later than the stamp of a standing set, the largest number; held, that number is no minute. */
-        if (item[2] > stamp && item[2] != STANDING) { s.refusal = 11; return s; }
+        if (item[2] > issued && item[2] != RETIRED_MARK) { s.refusal = 11; return s; }
         t->counters[home.counter]++;
         item[1] = permission;
-        item[2] = stamp;
+        item[2] = issued;
         item[3] = 1;
         t->counters[home.counter]++;
         return s;
@@ -182,7 +181,7 @@ BoughladderSetting second_set(const BoughladderTable *t, uint64_t animal, uint32
     t->counters[home.counter]++;
     item[0] = animal;
     item[1] = permission;
-    item[2] = stamp;
+    item[2] = issued;
     item[3] = 1;
     t->slots[to] = home.tag * 65536 + place;
     t->counters[home.counter]++;
@@ -224,12 +223,12 @@ BoughladderReading second_plain_read(const BoughladderTable *t, uint64_t animal,
     size_t m = t->items_length / 4;
     if (t->items_length % 4 != 0 || m < 1 || m > 4096) { r.refusal = 1; return r; }
     if (animal == 0) { r.refusal = 2; return r; }
-    if (limit > 10080 || now == STANDING) { r.refusal = 3; return r; }
+    if (limit > 10080 || now == NO_MINUTE) { r.refusal = 3; return r; }
     const uint64_t *item = first_with(t->items, m, animal);
     if (item == NULL) { r.kind = BOUGHLADDER_ABSENT; return r; }
     uint64_t stamp = item[2];
-    if (stamp != STANDING && stamp > now) { r.kind = BOUGHLADDER_AHEAD; return r; }
-    uint64_t age = stamp != STANDING ? now - stamp : 0;
+    if (stamp > now && stamp != RETIRED_MARK) { r.kind = BOUGHLADDER_AHEAD; return r; }
+    uint64_t age = stamp != RETIRED_MARK ? now - stamp : limit + FAR; /* the mark is as long overdue as is told */
     if (age > limit) {
         r.kind = BOUGHLADDER_OLD;
         r.left = age - limit < FAR ? (int64_t)limit - (int64_t)age : -(INT64_C(1) << 62);

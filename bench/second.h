@@ -10,8 +10,7 @@
 
 BoughladderReading second_read(const BoughladderTable *table, uint64_t animal, uint64_t limit, uint64_t now);
 BoughladderReading second_serve(const BoughladderTable *table, uint64_t animal, uint64_t limit, uint64_t now);
-BoughladderSetting second_set(const BoughladderTable *table, uint64_t animal, uint32_t permission, uint64_t issued, uint64_t now,
-                              uint32_t standing);
+BoughladderSetting second_set(const BoughladderTable *table, uint64_t animal, uint32_t permission, uint64_t issued, uint64_t now);
 uint32_t second_delete(const BoughladderTable *table, uint64_t animal);
 BoughladderReading second_plain_read(const BoughladderTable *table, uint64_t animal, uint64_t limit, uint64_t now);
 BoughladderJudgement second_judge(const BoughladderTable *table);

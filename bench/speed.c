@@ -55,7 +55,7 @@ typedef double Work(Table *t, size_t from);
         double start = now_ns();                                                                            \
         for (size_t i = 0; i < herd; i++) {                                                                 \
             uint64_t minute = NOW + i % 1000;                                                               \
-            BoughladderSetting s = who##_set(who##_TABLE, held[i], (uint32_t)i, minute, minute, 0);         \
+            BoughladderSetting s = who##_set(who##_TABLE, held[i], (uint32_t)i, minute, minute);            \
             t->sum += s.refusal + s.visits + s.moves;                                                       \
         }                                                                                                   \
         return (now_ns() - start) / (double)herd;                                                           \
@@ -63,7 +63,7 @@ typedef double Work(Table *t, size_t from);
     WORK(who##_new)                                                                                         \
         double start = now_ns();                                                                            \
         for (size_t i = from; i < from + BATCH; i++) {                                                      \
-            BoughladderSetting s = who##_set(who##_TABLE, absent[i], (uint32_t)i, NOW, NOW, 0);             \
+            BoughladderSetting s = who##_set(who##_TABLE, absent[i], (uint32_t)i, NOW, NOW);                \
             t->sum += s.refusal + s.visits + s.moves;                                                       \
         }                                                                                                   \
         return (now_ns() - start) / BATCH;                                                                  \
@@ -76,7 +76,7 @@ typedef double Work(Table *t, size_t from);
     WORK(who##_pairs)                                                                                       \
         double start = now_ns();                                                                            \
         for (size_t i = from; i < from + BATCH; i++) {                                                      \
-            BoughladderSetting s = who##_set(who##_TABLE, absent[i], (uint32_t)i, NOW, NOW, 0);             \
+            BoughladderSetting s = who##_set(who##_TABLE, absent[i], (uint32_t)i, NOW, NOW);                \
             t->sum += s.refusal + s.visits + s.moves + who##_delete(who##_TABLE, absent[i]);                \
         }                                                                                                   \
         return (now_ns() - start) / BATCH;                                                                  \
@@ -92,7 +92,7 @@ typedef double Work(Table *t, size_t from);
             victims[i] = e.victim;                                                                          \
         }                                                                                                   \
         double spent = (now_ns() - start) / BATCH;                                                          \
-        for (size_t i = 0; i < BATCH; i++) t->sum += who##_set(TABLE, victims[i], 1, NOW, NOW, 0).refusal;  \
+        for (size_t i = 0; i < BATCH; i++) t->sum += who##_set(TABLE, victims[i], 1, NOW, NOW).refusal;     \
         return spent;                                                                                       \
     }                                                                                                       \
     WORK(who##_lists)                                                                                       \
@@ -128,7 +128,7 @@ static void fill(unsigned load) {
     while (fresh_ones < M) {
         uint64_t animal = any();
         size_t in_batch = fresh_ones % BATCH;
-        if (boughladder_set(TABLE, animal, 1, NOW, NOW, 0).refusal != 0) continue;
+        if (boughladder_set(TABLE, animal, 1, NOW, NOW).refusal != 0) continue;
         absent[fresh_ones++] = animal;
         if (in_batch == BATCH - 1)
             for (size_t i = fresh_ones - BATCH; i < fresh_ones; i++) boughladder_delete(TABLE, absent[i]);
@@ -187,7 +187,7 @@ static void time_judge(const char *name, unsigned load) {
     Best best = none;
     uint64_t noes = boughladder_fresh(DUMP);
     for (size_t live = 0; live < (size_t)M * load / 100;)
-        live += boughladder_set(DUMP, any(), (uint32_t)live, NOW, NOW, 0).refusal == 0;
+        live += boughladder_set(DUMP, any(), (uint32_t)live, NOW, NOW).refusal == 0;
     for (int i = 0; i < 2 * rounds; i++) {
         int who = (i + i / 2) % 2 ? SECOND : OURS; /* another one first each time */
         double start = now_ns();
