@@ -61,6 +61,6 @@ verdicts =
     ∷ record { says = judged (0 ∷ 4063232 ∷ 13107202 ∷ 0 ∷ 0 ∷ 0 ∷ 0 ∷ 0 ∷ []) (0 ∷ 0 ∷ []) (1 ∷ 7 ∷ 100 ∷ 1 ∷ 0 ∷ 1 ∷ 0 ∷ 0 ∷ 5 ∷ 7 ∷ 100 ∷ 1 ∷ 0 ∷ 0 ∷ 0 ∷ 0 ∷ []); document = 8 ∷ 1 ∷ [] }
     ∷ record { says = judged (0 ∷ 4063232 ∷ 13107202 ∷ 0 ∷ 0 ∷ 0 ∷ 0 ∷ 0 ∷ []) (0 ∷ 0 ∷ []) (1 ∷ 7 ∷ 100 ∷ 1 ∷ 0 ∷ 0 ∷ 0 ∷ 0 ∷ 5 ∷ 7 ∷ 100 ∷ 1 ∷ 0 ∷ 0 ∷ 1 ∷ 0 ∷ []); document = 8 ∷ 3 ∷ [] }
     ∷ record { says = judged (0 ∷ 4063232 ∷ 13107202 ∷ 0 ∷ 0 ∷ 0 ∷ 0 ∷ 0 ∷ []) (0 ∷ 0 ∷ []) (1 ∷ 7 ∷ 100 ∷ 1 ∷ 0 ∷ 0 ∷ 0 ∷ 1 ∷ 5 ∷ 7 ∷ 100 ∷ 1 ∷ 0 ∷ 1 ∷ 0 ∷ 0 ∷ []); document = 8 ∷ 1 ∷ [] }
-    -- a live place may have any stamp, and any recent word; a standing one is sound
+    -- a live place may have any stamp, and any recent word; a retired one is sound
     ∷ record { says = judged (0 ∷ 4063232 ∷ 13107202 ∷ 0 ∷ 0 ∷ 0 ∷ 0 ∷ 0 ∷ []) (0 ∷ 0 ∷ []) (1 ∷ 4294967295 ∷ 18446744073709551615 ∷ 9 ∷ 0 ∷ 0 ∷ 0 ∷ 0 ∷ 5 ∷ 7 ∷ 100 ∷ 1 ∷ 0 ∷ 0 ∷ 0 ∷ 0 ∷ []); document = 0 ∷ [] }
     ∷ []

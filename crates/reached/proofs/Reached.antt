@@ -24,9 +24,9 @@ unfolding computing
 full-reached = refl
 
 -- and then a ninth finds no room
-pub six-reached : gate .answer (table four gate full-in) (did (set-animal (grant 9 7 100 100 false))) ≡ refused 6
+pub six-reached : gate .answer (table four gate full-in) (did (set-animal (grant 9 7 100 100))) ≡ refused 6
 unfolding computing
-six-reached = ap (λ m. gate .answer m (did (set-animal (grant 9 7 100 100 false)))) full-reached ∙ refl
+six-reached = ap (λ m. gate .answer m (did (set-animal (grant 9 7 100 100)))) full-reached ∙ refl
 
 -- N = 4: bucket 0 with tags 1, 1, 2, 1, bucket 1 with tag 1 four times
 abbrev pub tagged-animals : List ℕ

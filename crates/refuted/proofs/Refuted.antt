@@ -18,7 +18,7 @@ use Rattle.model.specs.Moves.{Free}
 use Rattle.model.specs.Visits.{climb, first-free, free-slot, hops, lowest, next-level, visits}
 use Rattle.model.specs.Calling.{AllTyped, Call, Event, did, read, set-animal, grant}
 use Rattle.model.specs.Answers.{Answer, absent, fresh, refused, stored, says-fresh}
-use Rattle.model.specs.Age.{age, is-fresh, left-of, verdict}
+use Rattle.model.specs.Age.{is-fresh, left-of, verdict}
 use Rattle.model.specs.Calls.{hit, hits, vacant-place}
 use Rattle.model.specs.Row.{beyond, plain, row-event, row-left, row-says, walk-to}
 use Rattle.model.specs.AnyTable.{Table, Write, cut-at, leaves, make-all}
@@ -34,7 +34,7 @@ use Rattle.refuted.proofs.Blind.{source-first-2}
 -- one name for all that a run computes with
 unfoldable pub computing : Unit {0}
 unfolding hash fnv fnv-step bytes tag-from odd-up spread other-bucket tag place damaged range first good-lengths good-slots good-counters
-    good-items hits hit vacant-place visits next-level hops first-free free-slot lowest climb is-fresh age left-of verdict stores walk-to row-left row-says
+    good-items hits hit vacant-place visits next-level hops first-free free-slot lowest climb is-fresh left-of verdict stores walk-to row-left row-says
 computing = tt
 
 -- memory as it may be lent, full of old words
@@ -43,10 +43,10 @@ lent s v i = mem (replicate s 7) (replicate v 3) (replicate i 9)
 
 -- animal 1 is set with permission 5, issued in minute 2, at once; and issued in minute 1, a minute before it arrives
 abbrev pub set-one : Event
-set-one = did (set-animal (grant 1 5 2 2 false))
+set-one = did (set-animal (grant 1 5 2 2))
 
 abbrev set-earlier : Event
-set-earlier = did (set-animal (grant 1 5 1 2 false))
+set-earlier = did (set-animal (grant 1 5 1 2))
 
 -- animal 1 is read in minute 2, with a limit of 720 minutes
 abbrev pub read-one : Event
@@ -54,7 +54,7 @@ read-one = did (read 1 720 2)
 
 -- animal x is set with permission 7 in minute 100
 abbrev sets : ℕ → Call
-sets x = set-animal (grant x 7 100 100 false)
+sets x = set-animal (grant x 7 100 100)
 
 -- some animals are, one after the other
 abbrev pub set-each : List ℕ → List Event
@@ -145,7 +145,7 @@ unfolding computing
 refuses-read-2 T n e D = not-refused n (sym (D .as-row none-yet read-one (tt, tt)) ∙ ap plain e)
 
 -- animal 1, permission 5, minute 2
-good-one : GoodInputs (grant 1 5 2 2 false)
+good-one : GoodInputs (grant 1 5 2 2)
 good-one = record { typed = omega arith; real = λ z. absurd (omega arith); timely = λ z. absurd (omega arith); issued = omega arith }
 
 -- any table at all that refuses the first set after fresh, with every slot free, breaks demand 3: there is room
@@ -157,7 +157,7 @@ refuses-set-3 T n free e D =
     let i = Y .first-of 1 * 4 + 0 in
     let room : Free (Y .layout) (table four T zero-lent .slots) (Y .first-of 1)
     = (0, omega arith, ap (λ (l : List ℕ). getD l i 0) free ∙ zeros 8 i) in
-    let must = D zero-lent (grant 1 5 2 2 false) good-one refl 0 refl .else-stores
+    let must = D zero-lent (grant 1 5 2 2) good-one refl 0 refl .else-stores
     λ stuck. stuck [] (omega arith) (tt, inl room) in
     true-false {b = true} refl (ap is-refusal (sym e ∙ must .2))
 
@@ -272,7 +272,7 @@ clears-later-2 D = clears-later-reads (D .cut-reads)
 count-not-1 : (n : ℕ) → n ≢ 1 → Demand3 four (counts n) → ⊥
 unfolding computing
 count-not-1 n ne D =
-    let r = D none-yet (grant 1 5 2 2 false) good-one refl 0 refl .looked n 0 refl in
+    let r = D none-yet (grant 1 5 2 2) good-one refl 0 refl .looked n 0 refl in
     r .before 0 (omega (arith, r .one)) (0, omega arith, refl)
 
 -- a visit count that is always 1: the memory when bucket 0 is full
@@ -314,7 +314,7 @@ not-first r =
 count-1 : Demand3 four (counts 1) → ⊥
 count-1 D =
     not-first (subst (λ (m : Mem). Position (shape-in four four-in) (m .slots) 9 1) four-left
-    (D four-in (grant 9 7 100 100 false) (record { typed = omega arith; real = λ z. absurd (omega arith); timely = λ z. absurd (omega arith); issued = omega arith })
+    (D four-in (grant 9 7 100 100) (record { typed = omega arith; real = λ z. absurd (omega arith); timely = λ z. absurd (omega arith); issued = omega arith })
     (ap (λ l. walk-to l 9 (places four four-in) 0) four-row ∙ nine-absent) 4
     (ap (λ l. walk-to l 0 (places four four-in) 0) four-row ∙ place-vacant)
     .looked 1 0 (ap (λ m. counts 1 .answer m (did (sets 9))) four-left ∙ nine-said)))

@@ -8,7 +8,6 @@ use Rattle.model.specs.Memory.{Mem}
 use Rattle.model.specs.Shape.{four, Ways}
 use Rattle.model.specs.Stores.{Block, Store, counted, enter, move, recency, remove, slot-to, stores-of, update}
 use Rattle.model.specs.Calling.{Event, delete, did, evict, find, make-fresh, read, serve, set-animal, write-list}
-use Rattle.model.specs.Age.{standing-mark}
 use Rattle.model.specs.Lent.{event-answer, lent-call}
 use Rattle.model.specs.AnyTable.{Table, Write}
 use Rattle.model.specs.Ours.{our-writes, traced}
@@ -107,14 +106,14 @@ stores-nothing = built four forgets-sets
 abbrev pub clears-later : Table
 clears-later = built four first-proper
 
--- a set stamps the minute of its arrival, or the standing mark, and answers as ours does
+-- a set stamps the minute of its arrival, and answers as ours does
 abbrev pub arrival-writes : Mem → Event → List Write
 arrival-writes m make-fresh = our-writes four m make-fresh
 arrival-writes m (did (read x limit now)) = our-writes four m (did (read x limit now))
 arrival-writes m (did (serve x limit now)) = our-writes four m (did (serve x limit now))
 arrival-writes m (did (find x)) = our-writes four m (did (find x))
 arrival-writes m (did (set-animal g)) =
-    traced m (all-restamped (choose (g .standing) standing-mark (g .minute)) (lent-call four m (set-animal g) .blocks))
+    traced m (all-restamped (g .minute) (lent-call four m (set-animal g) .blocks))
 arrival-writes m (did (delete x)) = our-writes four m (did (delete x))
 arrival-writes m (did (evict hand)) = our-writes four m (did (evict hand))
 arrival-writes m (did (write-list size)) = our-writes four m (did (write-list size))

@@ -129,7 +129,6 @@ fn grant() -> Grant {
         permission: 5,
         issued: 2,
         minute: 2,
-        standing: false,
     }
 }
 
