@@ -30,7 +30,7 @@ ALLOWED = {
     # X, c and e stand for any
     'docs/STATEMENTS.md': {'model/specs/X', 'crates/model/specs/X.antt', 'crates/c/must-fail/e.edit'},
     # slips, shown as such
-    'docs/replay-format.md': {'srve', 'standig'},
+    'docs/replay-format.md': {'srve'},
     # edits that went in that landing
     'docs/landings/00-ready.md': {'lines_counted_by_two', 'no-closing-addition', 'six-one-level-early', 'place_m_is_sound',
                                   'serve_edge_off_by_one', 'refuted/proofs/Reached'},
