@@ -105,7 +105,7 @@ class Story(unittest.TestCase):
     def test_what_is_left(self):
         self.assertEqual(LEAST_LEFT, -4611686018427387904)
         for limit in (0, 1, 720, LARGEST_LIMIT):
-            for stamp in (0, 100, 2 ** 62):
+            for stamp in (0, 100, 2 ** 32 - 1, 2 ** 62):
                 last = stamp + limit
                 self.assertEqual(self.of_stamp(stamp, limit, stamp), fresh(5, limit))
                 self.assertEqual(self.of_stamp(stamp, limit, last), fresh(5, 0))

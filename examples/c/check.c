@@ -1427,8 +1427,8 @@ static void tamper(Table *t) {
         case 5: t->items[4 * place + 1] = edge() << any() % 2 * 32; break;
         case 6: t->items[4 * place + 2 + any() % 2] = edge(); break;
         case 7: t->slots[slot] = tag_of(0) * 65536 + (uint32_t)place; break;
-        default: /* a twin, where that place is vacant and that slot free */
-            if (t->slots[from] == 0 || t->items[4 * place] != 0) break;
+        default: /* a twin, where that place is vacant and that slot free; a change before may have damaged the word */
+            if (t->slots[from] == 0 || t->slots[from] % 65536 >= t->i / 4 || t->items[4 * place] != 0) break;
             t->items[4 * place] = t->items[4 * (t->slots[from] % 65536)];
             t->slots[from ^ (1 + any() % 3)] = t->slots[from] / 65536 * 65536 + (uint32_t)place;
     }

@@ -102,7 +102,7 @@ fn what_is_left() {
     assert_eq!(LEAST_LEFT, -4611686018427387904);
     for limit in [0, 1, 720, LARGEST_LIMIT] {
         let whole = limit as i64;
-        for stamp in [0, 100, 1 << 62] {
+        for stamp in [0, 100, (1 << 32) - 1, 1 << 62] {
             let last = stamp + limit;
             assert_eq!(of_stamp(stamp, limit, stamp), fresh(5, whole));
             assert_eq!(of_stamp(stamp, limit, last), fresh(5, 0));
