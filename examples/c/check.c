@@ -60,7 +60,7 @@ static void give_back(Table *t) { free(t->slots), free(t->counters), free(t->ite
 
 #define LENT(t) (t).slots, (t).s, (t).counters, (t).c, (t).items, (t).i
 #define LEAST (-4611686018427387904) /* -2^62, by hand: the header has it too */
-#define MOST_OVERDUE 4611686018427387904u
+#define MOST_OVERDUE 4611686018427387904u /* 2^62 */
 
 static int reads(BoughladderReading r, unsigned refusal, unsigned kind, uint32_t permission, int64_t left) {
     return r.refusal == refusal && r.kind == kind && r.permission == permission && r.left == left;
@@ -135,7 +135,7 @@ static BoughladderReading owed(const uint64_t *words, uint64_t limit, uint64_t n
     if (words[2] > now) return r;
     r.kind = age <= limit ? BOUGHLADDER_FRESH : BOUGHLADDER_OLD;
     if (r.kind == BOUGHLADDER_FRESH) r.permission = (uint32_t)(words[1] % 4294967296u), r.left = (int64_t)(limit - age);
-    else r.left = age - limit > 4611686018427387904u ? LEAST : -(int64_t)(age - limit);
+    else r.left = age - limit > MOST_OVERDUE ? LEAST : -(int64_t)(age - limit);
     return r;
 }
 
