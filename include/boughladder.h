@@ -72,7 +72,8 @@
    A caller of 2.x that reads the age does not compile: left is the limit minus the age. Any other needs no change.
    Don't only rename it: left <= limit is true of absent, ahead and refused, and with a signed limit of old as well.
    Test kind, or ask boughladder_lane.
-   A caller of 1.0.0 does not compile: each set takes one minute more, and over a table a standing one takes two.
+   A caller of 1.0.0 over a table does not compile: each set takes one minute more. One over the runs does compile: its
+   minute and standing, 0 or 1, are taken for issued and now, and that is refusal 3.
    Compile and link everything again. What is mixed does link (only judge is missing before 3.1.0, plain read before
    2.1.0):
      - what was compiled with 2.0.0 to 3.1.0 and sets a standing permission stores one with its minute of issue. Its cut

@@ -30,7 +30,7 @@ ALLOWED = {
     # X, c and e stand for any
     'docs/STATEMENTS.md': {'model/specs/X', 'crates/model/specs/X.antt', 'crates/c/must-fail/e.edit'},
     # slips, shown as such
-    'docs/replay-format.md': {'srve', 'standig'},
+    'docs/replay-format.md': {'srve'},
     # edits that went in that landing
     'docs/landings/00-ready.md': {'lines_counted_by_two', 'no-closing-addition', 'six-one-level-early', 'place_m_is_sound',
                                   'serve_edge_off_by_one', 'refuted/proofs/Reached'},
@@ -38,10 +38,10 @@ ALLOWED = {
     'docs/landings/00-workshop.md': {'lines_counted_by_two', 'no-row-told-as-understood'},
     'docs/landings/02-plain-engine.md': {'no-row-told-as-understood'},
     'docs/landings/05-judge-a-dump.md': {'lines_counted_by_two', 'no-row-told-as-understood'},
-    # what was renamed or went in landing 04
-    'docs/landings/01-age-from-issue.md': {'another-age-2'},
+    # what was renamed or went in landing 04, and in landing 06 with the standing permissions
+    'docs/landings/01-age-from-issue.md': {'another-age-2', 'stamp-of', 'row-stamp', 'standing_ignored'},
     'docs/landings/04-time-left.md': {'age-told', 'another-age-2', 'refuted/proofs/Reached', 'standing_has_age_1',
-                                      'age_before_permission', 'age_wraps'},
+                                      'age_before_permission', 'age_wraps', 'time-left', 'standing-whole'},
 }
 
 

@@ -18,6 +18,10 @@ where it is later, now becomes the stamp, which is wrong. A list that was issued
 nothing else stops a late list: after a delete or an eviction it is stored. What came with minutes that ran ahead makes
 every true list late until the animal is deleted.
 
+Standing permissions are retired: no set makes one. A table from before 4.0.0 may hold some, stamped RETIRED_MARK. Such
+an entry is old with LEAST_LEFT at every minute and under every limit, so it opens no gate, and serve leaves it alone.
+No list is late for it: the next set replaces it. The list has it as it is stored.
+
 One call at a time: no call may run while another one writes (fresh, set, delete, evict, serve and the cut forms) on the
 same table. Each Table has a lock and each of its calls takes it, so threads may share it. Two Tables over the same
 arrays have two locks: make one. The functions plain_read and judge, for an auditor, take no lock.
@@ -36,9 +40,11 @@ ABSENT, FRESH, OLD, AHEAD = 'absent', 'fresh', 'old', 'ahead'
 HOLDING, MILKING, GRAZING = 'holding', 'milking', 'grazing'
 
 RECORD_BYTES = 20
-LARGEST_LIMIT = 10080    # minutes: a week
-LEAST_LEFT = -2 ** 62    # minutes; what would be less is told as this
-STANDING = 2 ** 64 - 1   # the stamp of a standing permission; no minute
+LARGEST_LIMIT = 10080        # minutes: a week
+LEAST_LEFT = -2 ** 62        # minutes; what would be less is told as this
+NO_MINUTE = 2 ** 64 - 1      # as now: refusal 3
+RETIRED_MARK = 2 ** 64 - 1   # as the stamp of an entry: a standing permission from before 4.0.0, which is retired
+ALL_STORES = 2 ** 64 - 1     # as k of a cut form: nothing is cut off
 MAY_MILK, MAY_GRAZE = 1, 2
 
 REFUSALS = {
@@ -83,7 +89,8 @@ class Reading:
     """
     kind: str                          # absent, fresh, old or ahead
     permission: Optional[int] = None   # where fresh
-    left: Optional[int] = None         # minutes of the limit that are left; where fresh (0 or more) or old (below 0)
+    left: Optional[int] = None         # minutes of the limit that are left; where fresh (0 or more) or old (below 0;
+                                       # LEAST_LEFT where retired)
 
 
 class Stored(NamedTuple):
@@ -121,7 +128,7 @@ class Judgement:
 class Record(NamedTuple):
     animal: int
     permission: int
-    stamp: int  # a minute, or STANDING
+    stamp: int  # a minute, or RETIRED_MARK
 
 
 def lane(reading):
@@ -178,8 +185,8 @@ _CALLS = {
     'read': (_Reading, _LENT + [_u64, _u64, _u64]),
     'serve': (_Reading, _LENT + [_u64, _u64, _u64]),
     'find': (_Finding, _LENT + [_u64]),
-    'set': (_Setting, _LENT + [_u64, _u32, _u64, _u64, _u32]),
-    'set_cut': (_Setting, _LENT + [_u64, _u32, _u64, _u64, _u32, _u64]),
+    'set': (_Setting, _LENT + [_u64, _u32, _u64, _u64]),
+    'set_cut': (_Setting, _LENT + [_u64, _u32, _u64, _u64, _u64]),
     'delete': (_u32, _LENT + [_u64]),
     'delete_cut': (_u32, _LENT + [_u64, _u64]),
     'evict': (_Evicting, _LENT + [_size]),
@@ -312,7 +319,7 @@ class Table:
         self._call('fresh')
 
     def read(self, animal, limit, now):
-        """Whether the permission is fresh: held, not ahead of now and at most limit minutes old; or standing."""
+        """Whether the permission is fresh: held, not ahead of now and at most limit minutes old."""
         return _told(self._call('read', *_asked(animal, limit, now)))
 
     def serve(self, animal, limit, now):
@@ -337,27 +344,22 @@ class Table:
         r = self._call('find', _number(animal, 64, 'animal'))
         return r.place if r.kind != 0 else None
 
-    def _set(self, name, animal, permission, issued, now, standing, *k):
+    def _set(self, name, animal, permission, issued, now, *k):
         r = self._call(name, _number(animal, 64, 'animal'), _number(permission, 32, 'permission'),
-                       _number(issued, 64, 'issued'), _number(now, 64, 'now'), standing,
+                       _number(issued, 64, 'issued'), _number(now, 64, 'now'),
                        *(_number(stores, 64, 'k') for stores in k))
         return Stored(r.visits, r.moves)
 
     def set(self, animal, permission, issued, now):
-        """Stores a permission with the stamp issued, over the one that is held unless that has a later stamp."""
-        return self._set('set', animal, permission, issued, now, 0)
+        """Stores a permission with the stamp issued, over the one that is held unless that has a later stamp.
 
-    def set_standing(self, animal, permission, issued, now):
-        """Stores a standing permission, over any: always fresh, the whole limit left. Its minutes are only tested."""
-        return self._set('set', animal, permission, issued, now, 1)
+        Over one that is retired it is always stored.
+        """
+        return self._set('set', animal, permission, issued, now)
 
     def set_cut(self, animal, permission, issued, now, k):
         """Set, of which only the first k stores are made, as a loss of power leaves it."""
-        return self._set('set_cut', animal, permission, issued, now, 0, k)
-
-    def set_standing_cut(self, animal, permission, issued, now, k):
-        """Set of a standing permission, of which only the first k stores are made."""
-        return self._set('set_cut', animal, permission, issued, now, 1, k)
+        return self._set('set_cut', animal, permission, issued, now, k)
 
     def delete(self, animal):
         """Takes the animal's entry away."""

@@ -1,11 +1,15 @@
-"""The order's examples and samples/network-drop.calls with its answers. bindings/rust/tests/story.rs tells the same."""
+"""The order's examples, samples/network-drop.calls with its answers, and the cabinet of samples/retired.calls.
+
+bindings/rust/tests/story.rs tells the same.
+"""
 import ctypes
 import threading
 import unittest
 
-from boughladder import (ABSENT, AHEAD, CONDITIONS, FRESH, GRAZING, HOLDING, LARGEST_LIMIT, LEAST_LEFT, MILKING, OLD,
-                         REFUSALS, STANDING, Evicted, Judgement, Reading, Record, Refusal, Stored, Table, judge, lane,
-                         plain_read, records)
+import boughladder
+from boughladder import (ABSENT, AHEAD, ALL_STORES, CONDITIONS, FRESH, GRAZING, HOLDING, LARGEST_LIMIT, LEAST_LEFT,
+                         MILKING, NO_MINUTE, OLD, REFUSALS, RETIRED_MARK, Evicted, Judgement, Reading, Record, Refusal,
+                         Stored, Table, judge, lane, plain_read, records)
 
 
 def lent(s, c, i):
@@ -31,6 +35,18 @@ def fresh(permission, left):
 
 def old(left):
     return Reading(OLD, None, left)
+
+
+RETIRED = old(-2 ** 62)  # at every minute and under every limit
+
+
+def cabinet():
+    """From before 4.0.0: cow 4713, and two bulls who are retired. 901 was here lately, 900 was not."""
+    table = lent(16, 2, 16)
+    table.slots[:] = 0, 14155778, 0, 0, 11862017, 0, 0, 0, 2818048, 0, 0, 0, 0, 0, 0, 0
+    table.counters[:] = 8, 2
+    table.items[:] = 4713, 2, 100, 1, 901, 2, RETIRED_MARK, 1, 900, 2, RETIRED_MARK, 0, 0, 0, 0, 0
+    return table
 
 
 class Story(unittest.TestCase):
@@ -62,27 +78,34 @@ class Story(unittest.TestCase):
         self.assertEqual(table.read(8, 720, 100), Reading(ABSENT))
         self.assertEqual(table.read(7, LARGEST_LIMIT, 10180), fresh(5, 0))
         self.refused(3, table.read, 7, LARGEST_LIMIT + 1, 100)
-        self.refused(3, table.read, 7, 720, 2 ** 64 - 1)
-        self.refused(3, table.set, 7, 5, 100, 2 ** 64 - 1)
+        self.refused(3, table.read, 7, 720, NO_MINUTE)
+        self.refused(3, table.set, 7, 5, 100, NO_MINUTE)
         self.refused(2, table.read, 0, 720, 100)
-        self.assertEqual(table.set_standing(7, 6, 100, 100), Stored(0, 0))
-        self.assertEqual(table.read(7, 0, 2 ** 64 - 2), fresh(6, 0))
-        self.assertEqual(table.items[:4], [7, 6, STANDING, 1])
+        self.assertEqual(table.set_cut(7, 6, 200, 200, ALL_STORES), Stored(0, 0))
+        self.assertEqual(table.items[:4], [7, 6, 200, 1])
+        # As a table from before 4.0.0 may hold her.
+        table.items[2] = RETIRED_MARK
+        self.assertEqual(table.read(7, 0, 2 ** 64 - 2), RETIRED)
+        self.assertEqual(table.read(7, 720, 200), RETIRED)
+        self.assertEqual((NO_MINUTE, RETIRED_MARK, ALL_STORES), 3 * (2 ** 64 - 1,))
 
     def of_stamp(self, stamp, limit, now):
         """What read, plain read and serve say of a held animal with that stamp; serve marks her where she is fresh."""
         table = self.holding()
         table.items[2] = stamp
+        before = words(table)
         said = table.read(7, limit, now)
         self.assertEqual(self.plainly(table, 7, limit, now), said)
+        self.assertEqual(words(table), before)
         self.assertEqual(table.serve(7, limit, now), said)
-        self.assertEqual(table.items[3] == 1, said.kind == FRESH)
+        before[2][3] = 1 if said.kind == FRESH else 0
+        self.assertEqual(words(table), before)
         return said
 
     def test_what_is_left(self):
         self.assertEqual(LEAST_LEFT, -4611686018427387904)
         for limit in (0, 1, 720, LARGEST_LIMIT):
-            for stamp in (0, 100, 2 ** 62):
+            for stamp in (0, 100, 2 ** 32 - 1, 2 ** 62):
                 last = stamp + limit
                 self.assertEqual(self.of_stamp(stamp, limit, stamp), fresh(5, limit))
                 self.assertEqual(self.of_stamp(stamp, limit, last), fresh(5, 0))
@@ -94,9 +117,12 @@ class Story(unittest.TestCase):
                     self.assertEqual(self.of_stamp(stamp, limit, last + overdue), old(LEAST_LEFT))
                 self.assertEqual(self.of_stamp(stamp, limit, 2 ** 64 - 2), old(LEAST_LEFT))
                 self.assertEqual(self.of_stamp(stamp + 1, limit, stamp), Reading(AHEAD))
-                self.assertEqual(self.of_stamp(STANDING, limit, stamp), fresh(5, limit))
+                self.assertEqual(self.of_stamp(RETIRED_MARK, limit, stamp), RETIRED)
+                self.assertEqual(self.of_stamp(RETIRED_MARK, limit, last), RETIRED)
+            # The largest minute is no mark.
             self.assertEqual(self.of_stamp(2 ** 64 - 2, limit, 0), Reading(AHEAD))
-            self.assertEqual(self.of_stamp(STANDING, limit, 2 ** 64 - 2), fresh(5, limit))
+            self.assertEqual(self.of_stamp(2 ** 64 - 2, limit, 2 ** 64 - 2), fresh(5, limit))
+            self.assertEqual(self.of_stamp(RETIRED_MARK, limit, 2 ** 64 - 2), RETIRED)
 
     def test_the_network_drops(self):
         table = made(32, 4, 32)
@@ -112,8 +138,9 @@ class Story(unittest.TestCase):
         self.assertEqual(lane(table.serve(4711, 720, 821)), HOLDING)
         self.assertEqual(table.serve(4712, 720, 840), old(-20))
         self.assertEqual(table.serve(4713, 720, 840), old(-20))
-        self.assertEqual(table.set_standing(900, 2, 840, 840), Stored(1, 0))
-        self.assertEqual(table.serve(900, 720, 840), fresh(2, 720))
+        # The bull gets a new permission each week, and a week is his limit. This one was issued at 60.
+        self.assertEqual(table.set(900, 2, 60, 840), Stored(1, 0))
+        self.assertEqual(table.serve(900, LARGEST_LIMIT, 840), fresh(2, 9300))
         self.assertEqual(table.serve(4799, 720, 840), Reading(ABSENT))
         self.assertEqual(table.read(4711, 10080, 840), fresh(1, 9340))
         self.refused(3, table.read, 4711, 10081, 840)
@@ -148,10 +175,10 @@ class Story(unittest.TestCase):
         self.refused(9, table.list, 99)
         self.assertEqual(table.list(104).hex(), '6712000000000000010000007a03000000000000'
                                                 '6812000000000000000000007a03000000000000'
-                                                '840300000000000002000000ffffffffffffffff'
+                                                '8403000000000000020000003c00000000000000'
                                                 '6a12000000000000010000007a03000000000000'
                                                 '6b12000000000000010000006400000000000000')
-        self.assertEqual(records(table.list()), [Record(4711, 1, 890), Record(4712, 0, 890), Record(900, 2, STANDING),
+        self.assertEqual(records(table.list()), [Record(4711, 1, 890), Record(4712, 0, 890), Record(900, 2, 60),
                                                  Record(4714, 1, 890), Record(4715, 1, 100)])
 
     def holding(self):
@@ -161,11 +188,12 @@ class Story(unittest.TestCase):
         table.items[3] = 0
         return table
 
-    def unchanged(self, number, table, animal, issued, now, standing=False):
+    def unchanged(self, number, table, animal, issued, now):
         """A set and its cut form refuse alike, and leave every word as it was."""
         before = words(table)
-        self.refused(number, table.set_standing if standing else table.set, animal, 9, issued, now)
-        self.refused(number, table.set_standing_cut if standing else table.set_cut, animal, 9, issued, now, 5)
+        self.refused(number, table.set, animal, 9, issued, now)
+        for k in (0, 5, ALL_STORES):
+            self.refused(number, table.set_cut, animal, 9, issued, now, k)
         self.assertEqual(words(table), before)
 
     def test_a_late_list(self):
@@ -182,21 +210,91 @@ class Story(unittest.TestCase):
 
     def test_issued_after_now(self):
         table = self.holding()
-        for standing in (False, True):
+        # Retired or not. No issue minute makes a stamp that is retired.
+        for stamp in (100, RETIRED_MARK):
+            table.items[2] = stamp
             for animal in (7, 8):
-                self.unchanged(3, table, animal, 301, 300, standing)
-                self.unchanged(3, table, animal, 300, 2 ** 64 - 1, standing)
+                self.unchanged(3, table, animal, 301, 300)
+                self.unchanged(3, table, animal, 300, NO_MINUTE)
+                self.unchanged(3, table, animal, RETIRED_MARK, 2 ** 64 - 2)
+                self.unchanged(3, table, animal, RETIRED_MARK, NO_MINUTE)
         self.assertEqual(table.set(7, 6, issued=300, now=300), Stored(0, 0))
         # The minutes swapped.
         self.unchanged(3, table, 7, 400, 310)
 
-    def test_standing_is_never_late(self):
-        table = self.holding()
-        self.assertEqual(table.set_standing(7, 6, 50, 300), Stored(0, 0))
-        self.assertEqual(table.items[:4], [7, 6, STANDING, 1])
-        # Nor is a late list over a standing permission.
-        self.assertEqual(table.set(7, 5, 50, 300), Stored(0, 0))
-        self.assertEqual(table.items[:4], [7, 5, 50, 1])
+    def test_retired_opens_no_gate(self):
+        table = cabinet()
+        before = words(table)
+        for animal in (900, 901):
+            for limit in (0, 1, 720, LARGEST_LIMIT):
+                for now in (0, 1, 99, 100, 130, 820, 10180, 2 ** 62, 2 ** 63, 2 ** 64 - 2):
+                    self.assertEqual(table.read(animal, limit, now), RETIRED)
+                    self.assertEqual(self.plainly(table, animal, limit, now), RETIRED)
+                    said = table.serve(animal, limit, now)
+                    self.assertEqual((said, lane(said)), (RETIRED, HOLDING))
+                self.refused(3, table.read, animal, limit, NO_MINUTE)
+                self.assertEqual(self.plainly(table, animal, limit, NO_MINUTE), 3)
+                self.refused(3, table.serve, animal, limit, NO_MINUTE)
+            self.refused(3, table.read, animal, LARGEST_LIMIT + 1, 130)
+        # Serve has changed no word, for a recent one neither. The cow's answer is as ever.
+        self.assertEqual(words(table), before)
+        self.assertEqual(table.serve(4713, 720, 130), fresh(2, 690))
+        self.assertEqual((table.find(901), table.find(900)), (1, 2))
+        self.agree(table, (4713, 900, 901))
+
+        # Sound, and listed as it is stored.
+        self.assertIsNone(self.judged(table))
+        self.assertEqual(records(table.list()), [Record(4713, 2, 100), Record(901, 2, RETIRED_MARK),
+                                                 Record(900, 2, RETIRED_MARK)])
+        self.assertEqual(table.list()[32:40], 8 * b'\xff')
+        # The hand passes 901, who was here lately, and takes 900. Served, 901 is still not recent: he is next.
+        self.assertEqual(table.evict(1), Evicted(900, 2, 3))
+        self.assertEqual(table.serve(901, 720, 130), RETIRED)
+        self.assertEqual(table.evict(3), Evicted(901, 3, 2))
+
+    def test_retired_is_replaced(self):
+        for issued in (0, 1, 60, 2 ** 32, 2 ** 64 - 2):
+            for now in (issued, 2 ** 64 - 2):
+                table = cabinet()
+                then = words(table)
+                self.assertEqual(table.set(900, 6, issued, now), Stored(0, 0))
+                # His three words and his counter, and nothing else.
+                then[1][0] += 2
+                then[2][8:12] = 900, 6, issued, 1
+                self.assertEqual(words(table), then)
+                self.assertEqual(table.serve(900, 720, issued), fresh(6, 720))
+                self.assertEqual(table.read(901, 720, issued), RETIRED)
+                self.assertIsNone(self.judged(table))
+                # From here on he is judged as any other.
+                if issued > 0:
+                    self.assertEqual(table.read(900, 720, issued - 1), Reading(AHEAD))
+                    self.unchanged(11, table, 900, issued - 1, now)
+                self.assertEqual(table.set(900, 2, issued, now), Stored(0, 0))
+        # The largest minute is no mark: every other list is late for it.
+        table = cabinet()
+        table.items[10] = 2 ** 64 - 2
+        self.unchanged(11, table, 900, 131, 131)
+        table.items[10] = RETIRED_MARK
+        # Other refusals come first.
+        table.counters[0] += 1
+        self.unchanged(8, table, 900, 60, 131)
+        self.assertEqual(self.plainly(table, 900, 720, 131), RETIRED)
+        table.counters[0] -= 1
+        table.slots[2] = 7
+        self.unchanged(4, table, 900, 60, 131)
+        table.slots[2] = 0
+        # Five stores: counter, permission, stamp, recent, counter. Before the third it is retired still.
+        for k in range(7):
+            cut = cabinet()
+            self.assertEqual(cut.set_cut(900, 6, 60, 131, k), Stored(0, 0))
+            now = RETIRED if k < 3 else fresh(6, 649)
+            self.assertEqual(self.plainly(cut, 900, 720, 131), now)
+            self.assertEqual(self.said(cut.read, 900, 720, 131), 8 if 0 < k < 5 else now)
+        # A delete takes it away as any other.
+        table.delete(900)
+        self.assertEqual(table.items[8:12], [0, 0, 0, 0])
+        self.assertEqual(table.set(900, 6, 60, 131), Stored(1, 0))
+        self.assertEqual(table.read(900, 720, 131), fresh(6, 649))
 
     def test_late_and_nothing_held(self):
         table = self.holding()
@@ -221,9 +319,13 @@ class Story(unittest.TestCase):
 
     def test_a_caller_of_before(self):
         table = self.holding()
-        for call, numbers in ((table.set, (7, 1, 300)), (table.set_standing, (7, 1)),
-                              (table.set_cut, (7, 1, 300, 5)), (table.set_standing_cut, (7, 1, 5))):
+        # Of 1.0.0, without the issue minute.
+        for call, numbers in ((table.set, (7, 1, 300)), (table.set_cut, (7, 1, 300, 5))):
             self.assertRaises(TypeError, call, *numbers)
+        # Of 3.x, which sets standing permissions, or looks for them in a list.
+        for call in (lambda: table.set_standing(7, 1, 300, 300), lambda: table.set_standing_cut(7, 1, 300, 300, 5),
+                     lambda: boughladder.STANDING):
+            self.assertRaises(AttributeError, call)
         for said in (table.read(7, 720, 300), table.read(7, 720, 900), table.read(8, 720, 300)):
             self.assertRaises(AttributeError, lambda: said.age)
             self.assertRaises(TypeError, lambda: said[2])
@@ -283,15 +385,16 @@ class Story(unittest.TestCase):
                     self.refused(8, table.find, 7)
                 else:
                     self.assertEqual(table.read(7, 720, 100), Reading(ABSENT) if k == 0 else fresh(5, 710))
-                # Only fresh helps.
-                table.fresh()
-                self.assertEqual(table.set_standing_cut(7, 5, 90, 100, 7), Stored(1, 0))
-                # Seven stores of a delete.
-                table.delete_cut(7, k)
-                if 0 < k < 7:
-                    self.refused(8, table.read, 7, 720, 100)
-                else:
-                    self.assertEqual(table.read(7, 720, 100), fresh(5, 720) if k == 0 else Reading(ABSENT))
+                # Only fresh helps. Seven stores of a delete, of one that is retired too.
+                for stamp, whole in ((90, fresh(5, 710)), (RETIRED_MARK, RETIRED)):
+                    table.fresh()
+                    self.assertEqual(table.set_cut(7, 5, 90, 100, ALL_STORES), Stored(1, 0))
+                    table.items[2] = stamp
+                    table.delete_cut(7, k)
+                    if 0 < k < 7:
+                        self.refused(8, table.read, 7, 720, 100)
+                    else:
+                        self.assertEqual(table.read(7, 720, 100), whole if k == 0 else Reading(ABSENT))
 
     def test_a_damaged_word(self):
         table = made(16, 4, 20)
@@ -323,15 +426,22 @@ class Story(unittest.TestCase):
                     self.assertEqual(self.plainly(table, animal, limit, now), self.said(table.read, animal, limit, now),
                                      (animal, limit, now))
 
+    def retire(self, table, place):
+        """As a table from before 4.0.0 may hold who is at that place."""
+        self.assertNotEqual(table.items[4 * place], 0)
+        table.items[4 * place + 2] = RETIRED_MARK
+
     def test_plain_read_over_a_day(self):
         table = made(32, 4, 20)
         self.agree(table, ())
         for call, *numbers in ((table.set, 4711, 1, 100, 100), (table.set, 4712, 0, 100, 100),
                                (table.set, 4713, 2 ** 32 - 1, 100, 100), (table.serve, 4711, 720, 820),
-                               (table.set_standing, 900, 2, 840, 840), (table.set, 4711, 3, 890, 900),
+                               (table.set, 900, 2, 60, 840), (self.retire, table, 3),         # he is at place 3
+                               (table.set, 4711, 3, 890, 900),
                                (table.set, 4711, 1, 100, 902),                                # late
                                (table.delete, 4711), (table.delete, 4711),                    # place 0 is vacant now
                                (table.set, 4714, 1, 890, 902), (table.set, 4715, 1, 902, 902),
+                               (table.set, 900, 2, 60, 902),                                  # in his place again
                                (table.set, 4716, 1, 902, 902),                                # no place
                                (table.evict, 1), (table.set, 4716, 1, 902, 902)):
             self.said(call, *numbers)
@@ -364,9 +474,10 @@ class Story(unittest.TestCase):
         for word, permission in ((2 ** 32 + 5, 5), (2 ** 32, 0), (2 ** 64 - 1, 2 ** 32 - 1)):
             table.items[9] = word
             self.assertEqual(self.plainly(table, 7, 720, 820), fresh(permission, 0))
-        table.items[10] = STANDING
-        self.assertEqual(self.plainly(table, 7, 0, 0), fresh(2 ** 32 - 1, 0))
-        self.assertEqual(self.plainly(table, 7, 720, 2 ** 64 - 2), fresh(2 ** 32 - 1, 720))
+        table.items[10] = RETIRED_MARK
+        self.assertEqual(self.plainly(table, 7, 0, 0), RETIRED)
+        self.assertEqual(self.plainly(table, 7, LARGEST_LIMIT, 100), RETIRED)
+        self.assertEqual(self.plainly(table, 7, 720, 2 ** 64 - 2), RETIRED)
 
         # Twins: the first place decides, whatever the other one is.
         table.items[:] = 8, 1, 50, 1, 7, 6, 100, 1, 7, 5, 110, 1
@@ -374,6 +485,10 @@ class Story(unittest.TestCase):
         self.assertEqual(self.plainly(table, 7, 720, 821), old(-1))
         table.items[6] = 900
         self.assertEqual(self.plainly(table, 7, 720, 820), Reading(AHEAD))
+        table.items[6] = RETIRED_MARK
+        self.assertEqual(self.plainly(table, 7, 720, 820), RETIRED)
+        table.items[:] = 8, 1, 50, 1, 7, 6, 100, 1, 7, 5, RETIRED_MARK, 1
+        self.assertEqual(self.plainly(table, 7, 720, 820), fresh(6, 0))
 
     def test_plain_read_refuses(self):
         for length in (0, 3, 4, 5, 6, 7, 8, 16380, 16383, 16384, 16385, 16388, 20000):
@@ -450,10 +565,12 @@ class Story(unittest.TestCase):
         self.assertIsNone(self.judged(table))
         for call, *numbers in ((table.set, 4711, 1, 100, 100), (table.set, 4712, 0, 100, 100),
                                (table.set, 4713, 2 ** 32 - 1, 100, 100), (table.serve, 4711, 720, 820),
-                               (table.set_standing, 900, 2, 840, 840), (table.set, 4711, 3, 890, 900),
+                               (table.set, 900, 2, 60, 840), (self.retire, table, 3),         # he is at place 3
+                               (table.set, 4711, 3, 890, 900),
                                (table.set, 4711, 1, 100, 902),                                # late
                                (table.delete, 4711), (table.delete, 4711),                    # place 0 is vacant now
                                (table.set, 4714, 1, 890, 902), (table.set, 4715, 1, 902, 902),
+                               (table.set, 900, 2, 60, 902),                                  # in his place again
                                (table.set, 4716, 1, 902, 902),                                # no place
                                (table.evict, 1), (table.set, 4716, 1, 902, 902)):
             self.said(call, *numbers)
@@ -514,7 +631,7 @@ class Story(unittest.TestCase):
         for place in range(5):
             self.assertEqual(broken((2, 4 * place + 1, 2 ** 32), (2, 4 * 1 + 2, 5)), (7, place))
             vacant = place in (1, 4)
-            for part, value in ((1, 2 ** 32 - 1), (2, 1), (2, STANDING), (3, 1), (3, 2 ** 64 - 1)):
+            for part, value in ((1, 2 ** 32 - 1), (2, 1), (2, RETIRED_MARK), (3, 1), (3, 2 ** 64 - 1)):
                 self.assertEqual(broken((2, 4 * place + part, value)), (8, place) if vacant else None)
         # All at once, and one after the other is put right.
         every = [(2, 4 * 1 + 2, 1), (2, 4 * 3 + 1, 2 ** 64 - 1), (2, 4 * 4, table.items[4 * 2]),
@@ -526,9 +643,13 @@ class Story(unittest.TestCase):
     def test_judge_of_a_cut_call(self):
         for k in range(9):
             with self.subTest(k=k):
-                for call, numbers in (('set_cut', (15, 5, 90, 100)), ('set_standing_cut', (15, 5, 90, 100)),
-                                      ('set_cut', (11, 5, 100, 100)), ('delete_cut', (11,))):
+                # Who is retired is cut as any other.
+                for call, numbers, retired in (('set_cut', (15, 5, 90, 100), False),
+                                               ('set_cut', (11, 5, 100, 100), False), ('delete_cut', (11,), False),
+                                               ('set_cut', (11, 5, 90, 100), True), ('delete_cut', (11,), True)):
                     table = self.herd()
+                    if retired:
+                        self.retire(table, 0)
                     getattr(table, call)(*numbers, k)
                     stores = 5 if call == 'set_cut' and numbers[0] == 11 else 7
                     self.assertEqual(self.judged(table), (3, 0) if 0 < k < stores else None)
@@ -547,11 +668,14 @@ class Story(unittest.TestCase):
         table = lent(8, 3, 20)
         table.slots[:] = 0, 0, word[14] + 0, 0, 0, word[11] + 4, 0, word[13] + 1
         table.counters[:] = 40, 2 ** 32 - 2, 6
-        table.items[:] = 14, 1, 100, 7, 13, 1, STANDING, 0, 0, 0, 0, 0, 0, 0, 0, 0, 11, 1, 100, 2 ** 64 - 1
+        table.items[:] = 14, 1, 100, 7, 13, 1, RETIRED_MARK, 0, 0, 0, 0, 0, 0, 0, 0, 0, 11, 1, 100, 2 ** 64 - 1
         self.assertIsNone(self.judged(table))
-        for call, *numbers in ((table.read, 11, 720, 820), (table.serve, 13, 720, 820), (table.delete, 14),
-                               (table.set, 15, 2, 200, 200), (table.set, 11, 3, 200, 200), (table.evict, 0)):
-            call(*numbers)
+        for said, call, *numbers in ((fresh(1, 0), table.read, 11, 720, 820), (RETIRED, table.serve, 13, 720, 820),
+                                     (Stored(0, 0), table.set, 13, 1, 50, 820),
+                                     (fresh(1, 0), table.serve, 13, 720, 770), (None, table.delete, 14),
+                                     (Stored(1, 0), table.set, 15, 2, 200, 200),
+                                     (Stored(0, 0), table.set, 11, 3, 200, 200), (Evicted(15, 6, 1), table.evict, 0)):
+            self.assertEqual(call(*numbers), said)
             self.assertIsNone(self.judged(table))
             self.agree(table, (11, 13, 14, 15))
         # The bytes of a dump.

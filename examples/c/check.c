@@ -1,9 +1,9 @@
 /*
  * Checks include/boughladder.h and libboughladder.a against each other: the layout of each struct, where the hash puts
  * an animal, each call with known answers (the order's examples), what is left of the limit, late lists and the order
- * of set's refusals, plain read and where it answers as read, judge and each of its conditions, the sizes and limits,
- * the calls over a table beside those over the runs, and garbage memory of any length in blocks of their own, so that
- * valgrind sees a read or a write outside.
+ * of set's refusals, entries that are retired, plain read and where it answers as read, judge and each of its
+ * conditions, the sizes and limits, the calls over a table beside those over the runs, and garbage memory of any length
+ * in blocks of their own, so that valgrind sees a read or a write outside.
  * `check ROUNDS` prints one line, `N checks passed`, or the checks that failed.
  */
 #include <stdio.h>
@@ -60,6 +60,7 @@ static void give_back(Table *t) { free(t->slots), free(t->counters), free(t->ite
 
 #define LENT(t) (t).slots, (t).s, (t).counters, (t).c, (t).items, (t).i
 #define LEAST (-4611686018427387904) /* -2^62, by hand: the header has it too */
+#define MOST_OVERDUE 4611686018427387904u /* 2^62 */
 
 static int reads(BoughladderReading r, unsigned refusal, unsigned kind, uint32_t permission, int64_t left) {
     return r.refusal == refusal && r.kind == kind && r.permission == permission && r.left == left;
@@ -122,26 +123,40 @@ static BoughladderReading plainly(const Table *t, uint64_t animal, uint64_t limi
     return r;
 }
 
-/* What it must say, on any memory. */
+/* What must be said of a place with these words. */
+static BoughladderReading owed(const uint64_t *words, uint64_t limit, uint64_t now) {
+    BoughladderReading r = {0, BOUGHLADDER_AHEAD, 0, 0};
+    uint64_t age = now - words[2];
+    if (words[2] == UINT64_MAX) {
+        /* Retired: that it is later than now as well does not count. */
+        r.kind = BOUGHLADDER_OLD, r.left = LEAST;
+        return r;
+    }
+    if (words[2] > now) return r;
+    r.kind = age <= limit ? BOUGHLADDER_FRESH : BOUGHLADDER_OLD;
+    if (r.kind == BOUGHLADDER_FRESH) r.permission = (uint32_t)(words[1] % 4294967296u), r.left = (int64_t)(limit - age);
+    else r.left = age - limit > MOST_OVERDUE ? LEAST : -(int64_t)(age - limit);
+    return r;
+}
+
+/* On any memory: what read says of an animal is what is owed of some place that holds her. */
+static int of_a_place(const Table *t, BoughladderReading r, uint64_t animal, uint64_t limit, uint64_t now) {
+    size_t i = 0;
+    if (r.refusal != 0 || r.kind == BOUGHLADDER_ABSENT) return 1;
+    while (i < t->i && !(t->items[i] == animal && alike(r, owed(t->items + i, limit, now)))) i += 4;
+    return i < t->i;
+}
+
+/* What plain read must say, on any memory. */
 static BoughladderReading walked(const Table *t, uint64_t animal, uint64_t limit, uint64_t now) {
     BoughladderReading r = {0, BOUGHLADDER_ABSENT, 0, 0};
     const uint64_t *words = t->items, *end = t->items + t->i;
-    uint64_t age;
     if (t->i % 4 != 0 || t->i < 4 || t->i > 16384) r.refusal = BOUGHLADDER_BAD_SHAPE;
     else if (animal == 0) r.refusal = BOUGHLADDER_NO_ANIMAL;
     else if (limit > 10080 || now == UINT64_MAX) r.refusal = BOUGHLADDER_BAD_TIME;
     if (r.refusal != 0) return r;
     while (words < end && words[0] != animal) words += 4;
-    if (words == end) return r;
-    if (words[2] != UINT64_MAX && words[2] > now) {
-        r.kind = BOUGHLADDER_AHEAD;
-        return r;
-    }
-    age = words[2] == UINT64_MAX ? 0 : now - words[2];
-    r.kind = age <= limit ? BOUGHLADDER_FRESH : BOUGHLADDER_OLD;
-    if (r.kind == BOUGHLADDER_FRESH) r.permission = (uint32_t)(words[1] % 4294967296u), r.left = (int64_t)(limit - age);
-    else r.left = age - limit > 4611686018427387904u ? LEAST : -(int64_t)(age - limit);
-    return r;
+    return words == end ? r : owed(words, limit, now);
 }
 
 /* On a table that finished calls have made, plain read answers as read: for every place's number, which is 0 where the
@@ -189,7 +204,7 @@ static uint32_t fnv(const void *bytes, size_t n) {
 static int stands(uint64_t animal, uint32_t hash) {
     Table t = lend(8192, 1, 4);
     uint32_t tag = hash >> 24 == 0 ? 1 : hash >> 24;
-    int holds = boughladder_fresh(LENT(t)) == 0 && boughladder_set(LENT(t), animal, 5, 100, 100, 0).refusal == 0 &&
+    int holds = boughladder_fresh(LENT(t)) == 0 && boughladder_set(LENT(t), animal, 5, 100, 100).refusal == 0 &&
                 t.slots[4 * (hash % 2048)] == 65536 * tag;
     give_back(&t);
     return holds;
@@ -316,9 +331,14 @@ static void sizes(void) {
     CHECK(reads(boughladder_table_read(&t, 7, BOUGHLADDER_LARGEST_LIMIT, 1), 0, BOUGHLADDER_FRESH, 5, 10079));
     CHECK(boughladder_table_read(&t, 7, BOUGHLADDER_LARGEST_LIMIT + 1, 1).refusal == BOUGHLADDER_BAD_TIME);
     CHECK(reads(boughladder_table_read(&t, 7, 0, UINT64_MAX - 1), 0, BOUGHLADDER_OLD, 0, BOUGHLADDER_LEAST_LEFT));
-    CHECK(boughladder_table_read(&t, 7, 0, BOUGHLADDER_STANDING).refusal == BOUGHLADDER_BAD_TIME);
-    CHECK(boughladder_table_set_standing(&t, 7, 5, 1, 1).refusal == 0 && items[2] == BOUGHLADDER_STANDING);
-    CHECK(reads(boughladder_table_read(&t, 7, 0, 0), 0, BOUGHLADDER_FRESH, 5, 0));
+    /* One number as a minute, as a stamp and as a count of stores. */
+    CHECK(boughladder_table_read(&t, 7, 0, BOUGHLADDER_NO_MINUTE).refusal == BOUGHLADDER_BAD_TIME);
+    CHECK(boughladder_table_set(&t, 7, 5, 0, BOUGHLADDER_NO_MINUTE).refusal == BOUGHLADDER_BAD_TIME);
+    items[2] = BOUGHLADDER_RETIRED_MARK;
+    CHECK(reads(boughladder_table_read(&t, 7, 0, 0), 0, BOUGHLADDER_OLD, 0, BOUGHLADDER_LEAST_LEFT));
+    CHECK(boughladder_table_set_cut(&t, 7, 6, 1, 1, BOUGHLADDER_ALL_STORES).refusal == 0);
+    CHECK(items[1] == 6 && items[2] == 1 && items[3] == 1 && counters[0] + counters[1] + counters[2] == 4);
+    CHECK(reads(boughladder_table_read(&t, 7, 0, 1), 0, BOUGHLADDER_FRESH, 6, 0));
     sprintf(version, "%d.%d.%d", BOUGHLADDER_VERSION_MAJOR, BOUGHLADDER_VERSION_MINOR, BOUGHLADDER_VERSION_PATCH);
     CHECK(strcmp(version, BOUGHLADDER_VERSION) == 0);
 }
@@ -353,7 +373,7 @@ static void nothing_lent(void) {
     CHECK(judges(boughladder_judge(t.slots, t.s, NULL, 0, NULL, 0), BOUGHLADDER_WRONG_LENGTH, 1));
     CHECK(boughladder_fresh(LENT(t)) == 0);
     CHECK(lists(boughladder_list(LENT(t), NULL, 0), 0, 0));
-    CHECK(boughladder_set(LENT(t), 1, 1, 1, 1, 0).refusal == 0);
+    CHECK(boughladder_set(LENT(t), 1, 1, 1, 1).refusal == 0);
     CHECK(lists(boughladder_list(LENT(t), NULL, 0), BOUGHLADDER_SHORT_BUFFER, 0));
     CHECK(lists(boughladder_list(LENT(t), record, sizeof record), 0, 1));
     give_back(&t);
@@ -415,13 +435,15 @@ static void records(void) {
         Table t = lend(16, 4, BOUGHLADDER_ITEMS(12));
         CHECK(boughladder_fresh(LENT(t)) == 0);
         for (uint32_t k = 1; k <= 12; k++)
-            CHECK(boughladder_set(LENT(t), k * 0x123456789u, k * 0x11111u, k, 12, k == 9).refusal == 0);
+            CHECK(boughladder_set(LENT(t), k * 0x123456789u, k * 0x11111u, k, 12).refusal == 0);
+        t.items[4 * 8 + 2] = UINT64_MAX;
         CHECK(lists(boughladder_list(LENT(t), list + at, BOUGHLADDER_LIST_BYTES(12)), 0, 12));
         for (size_t k = 0; k < 12; k++) {
             r = boughladder_record(list + at, k);
             CHECK(r.animal == t.items[4 * k] && r.permission == t.items[4 * k + 1] && r.stamp == t.items[4 * k + 2]);
         }
-        CHECK(boughladder_record(list + at, 8).stamp == BOUGHLADDER_STANDING);
+        r = boughladder_record(list + at, 8);
+        CHECK(r.animal == 9 * 0x123456789u && r.permission == 9 * 0x11111u && r.stamp == BOUGHLADDER_RETIRED_MARK);
         free(list), give_back(&t);
     }
 }
@@ -430,7 +452,7 @@ static void ages(void) {
     Table t = lend(16, 4, 36);
     CHECK(boughladder_fresh(LENT(t)) == 0);
     agree(&t);
-    CHECK(sets(boughladder_set(LENT(t), 7, 5, 100, 100, 0), 0, 1, 0));
+    CHECK(sets(boughladder_set(LENT(t), 7, 5, 100, 100), 0, 1, 0));
     agree(&t);
     CHECK(reads(boughladder_read(LENT(t), 7, 720, 820), 0, BOUGHLADDER_FRESH, 5, 0));
     CHECK(reads(boughladder_read(LENT(t), 7, 720, 821), 0, BOUGHLADDER_OLD, 0, -1));
@@ -440,18 +462,18 @@ static void ages(void) {
     CHECK(reads(boughladder_read(LENT(t), 7, 10080, 10180), 0, BOUGHLADDER_FRESH, 5, 0));
     CHECK(reads(boughladder_read(LENT(t), 7, 10081, 100), BOUGHLADDER_BAD_TIME, 0, 0, 0));
     CHECK(reads(boughladder_read(LENT(t), 7, 720, UINT64_MAX), BOUGHLADDER_BAD_TIME, 0, 0, 0));
-    CHECK(sets(boughladder_set(LENT(t), 7, 6, UINT64_MAX, UINT64_MAX, 0), BOUGHLADDER_BAD_TIME, 0, 0));
+    CHECK(sets(boughladder_set(LENT(t), 7, 6, UINT64_MAX, UINT64_MAX), BOUGHLADDER_BAD_TIME, 0, 0));
 
-    /* An update; then a standing permission, which is fresh at any minute. Any standing but 0 will do. */
-    CHECK(sets(boughladder_set(LENT(t), 7, UINT32_MAX, 200, 200, 0), 0, 0, 0));
+    /* An update; then it is retired: old at any minute, and an earlier list replaces it. */
+    CHECK(sets(boughladder_set(LENT(t), 7, UINT32_MAX, 200, 200), 0, 0, 0));
     CHECK(reads(boughladder_read(LENT(t), 7, 0, 200), 0, BOUGHLADDER_FRESH, UINT32_MAX, 0));
-    CHECK(sets(boughladder_set(LENT(t), 7, 6, 200, 200, 0x80000000u), 0, 0, 0));
-    CHECK(reads(boughladder_read(LENT(t), 7, 0, UINT64_MAX - 1), 0, BOUGHLADDER_FRESH, 6, 0));
-    CHECK(t.items[2] == UINT64_MAX);
+    t.items[2] = UINT64_MAX;
+    CHECK(reads(boughladder_read(LENT(t), 7, 10080, 200), 0, BOUGHLADDER_OLD, 0, LEAST));
+    CHECK(reads(boughladder_read(LENT(t), 7, 0, UINT64_MAX - 1), 0, BOUGHLADDER_OLD, 0, LEAST));
     agree(&t);
 
     /* Serve marks where the answer is fresh, and nowhere else. */
-    CHECK(sets(boughladder_set(LENT(t), 7, 5, 100, 100, 0), 0, 0, 0));
+    CHECK(sets(boughladder_set(LENT(t), 7, 5, 100, 100), 0, 0, 0));
     CHECK(t.items[0] == 7 && t.items[1] == 5 && t.items[2] == 100 && t.items[3] == 1);
     t.items[3] = 0;
     CHECK(reads(boughladder_serve(LENT(t), 7, 720, 821), 0, BOUGHLADDER_OLD, 0, -1) && t.items[3] == 0);
@@ -479,7 +501,7 @@ static void ages(void) {
 static int leaves(uint64_t stamp, uint64_t limit, uint64_t now, unsigned kind, int64_t left) {
     Table t = lend(16, 4, 36);
     uint32_t permission = kind == BOUGHLADDER_FRESH ? 5 : 0;
-    int holds = boughladder_fresh(LENT(t)) == 0 && boughladder_set(LENT(t), 7, 5, 0, 0, 0).refusal == 0;
+    int holds = boughladder_fresh(LENT(t)) == 0 && boughladder_set(LENT(t), 7, 5, 0, 0).refusal == 0;
     t.items[2] = stamp, t.items[3] = 0;
     holds = holds && reads(boughladder_read(LENT(t), 7, limit, now), 0, kind, permission, left) &&
             reads(plainly(&t, 7, limit, now), 0, kind, permission, left) && t.items[3] == 0 &&
@@ -520,22 +542,23 @@ static void lefts(void) {
             CHECK(leaves(stamp, limit, UINT64_MAX - 1, BOUGHLADDER_OLD, LEAST));
             CHECK(leaves(stamp + 1, limit, stamp, BOUGHLADDER_AHEAD, 0));
             CHECK(leaves(UINT64_MAX - 1, limit, stamp, BOUGHLADDER_AHEAD, 0));
-            CHECK(leaves(BOUGHLADDER_STANDING, limit, stamp, BOUGHLADDER_FRESH, whole));
+            CHECK(leaves(BOUGHLADDER_RETIRED_MARK, limit, stamp, BOUGHLADDER_OLD, LEAST));
+            CHECK(leaves(BOUGHLADDER_RETIRED_MARK, limit, last, BOUGHLADDER_OLD, LEAST));
         }
         CHECK(leaves(9223372036854775809u, limit, 0, BOUGHLADDER_AHEAD, 0));
         CHECK(leaves(UINT64_MAX - 1, limit, UINT64_MAX - 1, BOUGHLADDER_FRESH, whole));
-        CHECK(leaves(BOUGHLADDER_STANDING, limit, UINT64_MAX - 1, BOUGHLADDER_FRESH, whole));
+        CHECK(leaves(BOUGHLADDER_RETIRED_MARK, limit, UINT64_MAX - 1, BOUGHLADDER_OLD, LEAST));
     }
 }
 
 /* Set and its cut form refuse alike, for every k, and change nothing. */
-static int refuses(Table *t, uint64_t animal, uint64_t issued, uint64_t now, uint32_t standing, uint32_t refusal) {
+static int refuses(Table *t, uint64_t animal, uint64_t issued, uint64_t now, uint32_t refusal) {
     Table before = lend(t->s, t->c, t->i);
     int holds;
     copy(&before, t);
-    holds = sets(boughladder_set(LENT(*t), animal, 9, issued, now, standing), refusal, 0, 0) && same(t, &before);
+    holds = sets(boughladder_set(LENT(*t), animal, 9, issued, now), refusal, 0, 0) && same(t, &before);
     for (uint64_t k = 0; k <= 8; k++)
-        holds = holds && sets(boughladder_set_cut(LENT(*t), animal, 9, issued, now, standing, k), refusal, 0, 0) &&
+        holds = holds && sets(boughladder_set_cut(LENT(*t), animal, 9, issued, now, k), refusal, 0, 0) &&
                 same(t, &before);
     give_back(&before);
     return holds;
@@ -545,84 +568,199 @@ static int refuses(Table *t, uint64_t animal, uint64_t issued, uint64_t now, uin
 static void issues(void) {
     Table t = lend(16, 4, 36);
     CHECK(boughladder_fresh(LENT(t)) == 0);
-    CHECK(sets(boughladder_set(LENT(t), 7, 5, 100, 300, 0), 0, 1, 0) && t.items[2] == 100);
+    CHECK(sets(boughladder_set(LENT(t), 7, 5, 100, 300), 0, 1, 0) && t.items[2] == 100);
     CHECK(reads(boughladder_read(LENT(t), 7, 720, 820), 0, BOUGHLADDER_FRESH, 5, 0));
     CHECK(reads(boughladder_read(LENT(t), 7, 720, 821), 0, BOUGHLADDER_OLD, 0, -1));
 
     /* A minute earlier is late, and she does not count as here lately; the same minute and a later one are stored. */
     t.items[3] = 0;
-    CHECK(refuses(&t, 7, 99, 300, 0, BOUGHLADDER_LATE));
-    CHECK(refuses(&t, 7, 0, UINT64_MAX - 1, 0, BOUGHLADDER_LATE));
-    CHECK(sets(boughladder_set(LENT(t), 7, 6, 100, 300, 0), 0, 0, 0));
+    CHECK(refuses(&t, 7, 99, 300, BOUGHLADDER_LATE));
+    CHECK(refuses(&t, 7, 0, UINT64_MAX - 1, BOUGHLADDER_LATE));
+    CHECK(sets(boughladder_set(LENT(t), 7, 6, 100, 300), 0, 0, 0));
     CHECK(t.items[1] == 6 && t.items[2] == 100 && t.items[3] == 1);
-    CHECK(sets(boughladder_set_cut(LENT(t), 7, 7, 101, 300, 0, 5), 0, 0, 0));
+    CHECK(sets(boughladder_set_cut(LENT(t), 7, 7, 101, 300, 5), 0, 0, 0));
     CHECK(t.items[1] == 7 && t.items[2] == 101);
 
-    /* Issued later than now: held or not, standing or not. */
-    for (uint32_t standing = 0; standing <= 1; standing++) {
-        CHECK(refuses(&t, 7, 301, 300, standing, BOUGHLADDER_BAD_TIME));
-        CHECK(refuses(&t, 8, 301, 300, standing, BOUGHLADDER_BAD_TIME));
-        CHECK(refuses(&t, 7, UINT64_MAX, UINT64_MAX - 1, standing, BOUGHLADDER_BAD_TIME));
-        CHECK(refuses(&t, 7, 200, UINT64_MAX, standing, BOUGHLADDER_BAD_TIME));
+    /* Issued later than now: held or not, retired or not. No issue minute makes a stamp that is retired. */
+    for (int mark = 0; mark <= 1; mark++) {
+        t.items[2] = mark ? UINT64_MAX : 101;
+        CHECK(refuses(&t, 7, 301, 300, BOUGHLADDER_BAD_TIME));
+        CHECK(refuses(&t, 8, 301, 300, BOUGHLADDER_BAD_TIME));
+        for (uint64_t animal = 7; animal <= 8; animal++) {
+            CHECK(refuses(&t, animal, UINT64_MAX, UINT64_MAX - 1, BOUGHLADDER_BAD_TIME));
+            CHECK(refuses(&t, animal, UINT64_MAX, UINT64_MAX, BOUGHLADDER_BAD_TIME));
+            CHECK(refuses(&t, animal, 200, UINT64_MAX, BOUGHLADDER_BAD_TIME));
+        }
+        /* Over the runs a caller of 1.0.0 compiles: its minute and standing are taken for the two minutes. */
+        CHECK(refuses(&t, 7, 300, 0, BOUGHLADDER_BAD_TIME) && refuses(&t, 7, 300, 1, BOUGHLADDER_BAD_TIME));
     }
-    CHECK(sets(boughladder_set(LENT(t), 7, 5, 300, 300, 0), 0, 0, 0));
-
-    /* Standing over a later stamp, and a late list over a standing entry. */
-    CHECK(sets(boughladder_set(LENT(t), 7, 6, 200, 400, 1), 0, 0, 0) && t.items[2] == BOUGHLADDER_STANDING);
-    CHECK(sets(boughladder_set(LENT(t), 7, 5, 100, 400, 0), 0, 0, 0) && t.items[2] == 100);
+    CHECK(sets(boughladder_set(LENT(t), 7, 5, 300, 300), 0, 0, 0) && t.items[2] == 300);
 
     /* Nothing is held after a delete or an eviction: then a late list is stored, and she is fresh by it. */
-    CHECK(sets(boughladder_set(LENT(t), 7, 0, 500, 500, 0), 0, 0, 0));
-    CHECK(refuses(&t, 7, 100, 510, 0, BOUGHLADDER_LATE));
+    CHECK(sets(boughladder_set(LENT(t), 7, 0, 500, 500), 0, 0, 0));
+    CHECK(refuses(&t, 7, 100, 510, BOUGHLADDER_LATE));
     CHECK(boughladder_delete(LENT(t), 7) == 0);
-    CHECK(sets(boughladder_set(LENT(t), 7, 1, 100, 510, 0), 0, 1, 0));
+    CHECK(sets(boughladder_set(LENT(t), 7, 1, 100, 510), 0, 1, 0));
     CHECK(reads(boughladder_read(LENT(t), 7, 720, 510), 0, BOUGHLADDER_FRESH, 1, 310));
-    CHECK(sets(boughladder_set(LENT(t), 7, 0, 520, 520, 0), 0, 0, 0));
+    CHECK(sets(boughladder_set(LENT(t), 7, 0, 520, 520), 0, 0, 0));
     CHECK(boughladder_evict(LENT(t), 0).victim == 7);
-    CHECK(sets(boughladder_set(LENT(t), 7, 1, 100, 530, 0), 0, 1, 0));
+    CHECK(sets(boughladder_set(LENT(t), 7, 1, 100, 530), 0, 1, 0));
 
     /* The clock ran ahead: every true list is late until she is deleted, or until the clock is there. */
-    CHECK(sets(boughladder_set(LENT(t), 7, 1, 5000, 5000, 0), 0, 0, 0));
+    CHECK(sets(boughladder_set(LENT(t), 7, 1, 5000, 5000), 0, 0, 0));
     CHECK(reads(boughladder_read(LENT(t), 7, 720, 900), 0, BOUGHLADDER_AHEAD, 0, 0));
-    CHECK(refuses(&t, 7, 900, 900, 0, BOUGHLADDER_LATE));
+    CHECK(refuses(&t, 7, 900, 900, BOUGHLADDER_LATE));
     CHECK(reads(boughladder_read(LENT(t), 7, 720, 5000), 0, BOUGHLADDER_FRESH, 1, 720));
-    CHECK(refuses(&t, 7, 4999, 5001, 0, BOUGHLADDER_LATE));
-    CHECK(sets(boughladder_set(LENT(t), 7, 1, 5001, 5001, 0), 0, 0, 0));
+    CHECK(refuses(&t, 7, 4999, 5001, BOUGHLADDER_LATE));
+    CHECK(sets(boughladder_set(LENT(t), 7, 1, 5001, 5001), 0, 0, 0));
     CHECK(boughladder_delete(LENT(t), 7) == 0);
-    CHECK(sets(boughladder_set(LENT(t), 7, 1, 900, 900, 0), 0, 1, 0));
+    CHECK(sets(boughladder_set(LENT(t), 7, 1, 900, 900), 0, 1, 0));
 
     /* Swapped minutes: refusal 3, or, where the list is from later than now, a wrong stamp. */
-    CHECK(refuses(&t, 7, 950, 910, 0, BOUGHLADDER_BAD_TIME));
-    CHECK(sets(boughladder_set(LENT(t), 7, 1, 950, 1000, 0), 0, 0, 0) && t.items[2] == 950);
+    CHECK(refuses(&t, 7, 950, 910, BOUGHLADDER_BAD_TIME));
+    CHECK(sets(boughladder_set(LENT(t), 7, 1, 950, 1000), 0, 0, 0) && t.items[2] == 950);
     give_back(&t);
 }
 
 /* Set refuses in the order 1, 2, 3, 8, 4, 11, 5: all reasons at once, and one after the other is taken away. One place
-   and two buckets, so every slot is a home, and the table is full. */
-static void turns(void) {
+   and two buckets, so every slot is a home, and the table is full. Where 7 is retired, only her 11 does not come. */
+static void turns(int mark) {
     Table t = lend(8, 1, 4);
     size_t slot = 0;
     CHECK(boughladder_fresh(LENT(t)) == 0);
-    CHECK(boughladder_set(LENT(t), 7, 5, 100, 100, 0).refusal == 0);
+    CHECK(boughladder_set(LENT(t), 7, 5, 100, 100).refusal == 0);
+    if (mark) t.items[2] = UINT64_MAX;
     while (t.slots[slot] != 0) slot++;
     t.slots[slot] = 65537, t.counters[0] = 3;
     t.i = 3;
-    CHECK(refuses(&t, 0, 99, 98, 0, BOUGHLADDER_BAD_SHAPE));
+    CHECK(refuses(&t, 0, 99, 98, BOUGHLADDER_BAD_SHAPE));
     t.i = 4;
-    CHECK(refuses(&t, 0, 99, 98, 0, BOUGHLADDER_NO_ANIMAL));
+    CHECK(refuses(&t, 0, 99, 98, BOUGHLADDER_NO_ANIMAL));
     for (uint64_t animal = 7; animal <= 8; animal++) {
         t.slots[slot] = 65537, t.counters[0] = 3;
-        CHECK(refuses(&t, animal, 99, 98, 0, BOUGHLADDER_BAD_TIME));
-        CHECK(refuses(&t, animal, 99, 98, 1, BOUGHLADDER_BAD_TIME));
-        CHECK(refuses(&t, animal, 99, 99, 0, BOUGHLADDER_BUSY));
+        CHECK(refuses(&t, animal, 99, 98, BOUGHLADDER_BAD_TIME));
+        CHECK(refuses(&t, animal, 99, 99, BOUGHLADDER_BUSY));
         t.counters[0] = 4;
-        CHECK(refuses(&t, animal, 99, 99, 0, BOUGHLADDER_DAMAGED));
+        CHECK(refuses(&t, animal, 99, 99, BOUGHLADDER_DAMAGED));
         t.slots[slot] = 0;
         /* Who is held is late, and no place is wanted for her; who is not held has none. */
-        CHECK(refuses(&t, animal, 99, 99, 0, animal == 7 ? BOUGHLADDER_LATE : BOUGHLADDER_NO_PLACE));
+        if (mark && animal == 7) {
+            CHECK(sets(boughladder_set(LENT(t), 7, 9, 99, 99), 0, 0, 0) && t.items[2] == 99);
+            t.items[2] = UINT64_MAX;
+        } else {
+            CHECK(refuses(&t, animal, 99, 99, animal == 7 ? BOUGHLADDER_LATE : BOUGHLADDER_NO_PLACE));
+        }
     }
-    CHECK(sets(boughladder_set(LENT(t), 7, 9, 100, 100, 0), 0, 0, 0));
+    CHECK(sets(boughladder_set(LENT(t), 7, 9, 100, 100), 0, 0, 0));
     give_back(&t);
+}
+
+/* A table in which 7, between 6 and 8, is retired, with that permission and recent word. */
+static Table with_retired(uint64_t permission, uint64_t recent) {
+    Table t = lend(16, 1, 36);
+    CHECK(boughladder_fresh(LENT(t)) == 0);
+    for (uint64_t animal = 6; animal <= 8; animal++)
+        CHECK(boughladder_set(LENT(t), animal, 5, 100, 300).refusal == 0);
+    t.items[4 + 1] = permission, t.items[4 + 2] = UINT64_MAX, t.items[4 + 3] = recent;
+    return t;
+}
+
+/* Retired: old at every minute and under every limit, overdue by the most that is told. It opens no gate, serve changes
+   no word, judge says yes, and the list has it as it is stored. */
+static void retired(void) {
+    static const uint64_t limits[5] = {0, 1, 720, 10079, 10080};
+    static const uint64_t minutes[9] = {0, 1, 99, 100, 820, 10180, MOST_OVERDUE, 2 * MOST_OVERDUE, UINT64_MAX - 1};
+    static const uint64_t permissions[4] = {0, 1, 3, UINT32_MAX}, recents[4] = {0, 1, 7, UINT64_MAX};
+    for (int p = 0; p < 4; p++)
+        for (int n = 0; n < 4; n++) {
+            Table t = with_retired(permissions[p], recents[n]), before = with_retired(permissions[p], recents[n]);
+            uint8_t list[BOUGHLADDER_LIST_BYTES(3)];
+            BoughladderRecord record;
+            BoughladderReading r;
+            for (int l = 0; l < 5; l++) {
+                for (int m = 0; m < 9; m++) {
+                    r = boughladder_read(LENT(t), 7, limits[l], minutes[m]);
+                    CHECK(reads(r, 0, BOUGHLADDER_OLD, 0, LEAST) && boughladder_lane(r) == BOUGHLADDER_HOLDING);
+                    CHECK(alike(plainly(&t, 7, limits[l], minutes[m]), r));
+                    CHECK(alike(boughladder_serve(LENT(t), 7, limits[l], minutes[m]), r) && same(&t, &before));
+                }
+                /* What is no minute is refused here too. */
+                r = boughladder_read(LENT(t), 7, limits[l], BOUGHLADDER_NO_MINUTE);
+                CHECK(reads(r, BOUGHLADDER_BAD_TIME, 0, 0, 0) && boughladder_lane(r) == BOUGHLADDER_HOLDING);
+                CHECK(alike(plainly(&t, 7, limits[l], BOUGHLADDER_NO_MINUTE), r));
+                CHECK(alike(boughladder_serve(LENT(t), 7, limits[l], BOUGHLADDER_NO_MINUTE), r) && same(&t, &before));
+            }
+            CHECK(reads(boughladder_read(LENT(t), 7, 10081, 100), BOUGHLADDER_BAD_TIME, 0, 0, 0));
+            CHECK(finds(boughladder_find(LENT(t), 7), 0, BOUGHLADDER_AT_PLACE, 1));
+            CHECK(told(&t, BOUGHLADDER_SOUND, 0));
+            agree(&t);
+            CHECK(lists(boughladder_list(LENT(t), list, sizeof list), 0, 3) && same(&t, &before));
+            record = boughladder_record(list, 1);
+            CHECK(record.animal == 7 && record.permission == permissions[p]);
+            CHECK(record.stamp == BOUGHLADDER_RETIRED_MARK);
+            /* Busy comes first; plain read walks on. */
+            t.counters[0]++;
+            CHECK(reads(boughladder_read(LENT(t), 7, 720, 100), BOUGHLADDER_BUSY, 0, 0, 0));
+            CHECK(reads(boughladder_serve(LENT(t), 7, 720, 100), BOUGHLADDER_BUSY, 0, 0, 0));
+            CHECK(reads(plainly(&t, 7, 720, 100), 0, BOUGHLADDER_OLD, 0, LEAST));
+            give_back(&t), give_back(&before);
+        }
+}
+
+/* No list is late for what is retired: any issue minute replaces it. The next list is judged by that minute. */
+static void retired_replaced(void) {
+    static const uint64_t issued[5] = {0, 1, 100, 4294967296u, UINT64_MAX - 1};
+    Table t, before = with_retired(5, 0);
+    for (int n = 0; n < 5; n++)
+        for (int at_once = 0; at_once < 2; at_once++) {
+            uint64_t now = at_once ? issued[n] : UINT64_MAX - 1;
+            Table then = with_retired(9, 1);
+            t = with_retired(5, 0);
+            CHECK(sets(boughladder_set(LENT(t), 7, 9, issued[n], now), 0, 0, 0));
+            then.items[4 + 2] = issued[n], then.counters[0] += 2;
+            CHECK(same(&t, &then) && told(&t, BOUGHLADDER_SOUND, 0));
+            CHECK(reads(boughladder_read(LENT(t), 7, 720, issued[n]), 0, BOUGHLADDER_FRESH, 9, 720));
+            if (n > 0) CHECK(refuses(&t, 7, issued[n] - 1, now, BOUGHLADDER_LATE));
+            CHECK(sets(boughladder_set(LENT(t), 7, 8, issued[n], now), 0, 0, 0) && t.items[4 + 1] == 8);
+            give_back(&t), give_back(&then);
+        }
+
+    /* The largest minute is no mark: it is ahead, and every other list is late for it. */
+    t = with_retired(5, 0);
+    t.items[4 + 2] = UINT64_MAX - 1;
+    CHECK(reads(boughladder_read(LENT(t), 7, 720, 300), 0, BOUGHLADDER_AHEAD, 0, 0));
+    CHECK(refuses(&t, 7, 300, 300, BOUGHLADDER_LATE));
+    CHECK(refuses(&t, 7, UINT64_MAX - 2, UINT64_MAX - 1, BOUGHLADDER_LATE));
+    give_back(&t);
+
+    /* Five stores of an update: busy between the first and the last. Half of it opens nothing: the mark goes third. */
+    for (uint64_t k = 0; k <= 6; k++) {
+        BoughladderReading r;
+        t = with_retired(5, 0);
+        CHECK(sets(boughladder_set_cut(LENT(t), 7, 9, 50, 300, k), 0, 0, 0));
+        CHECK(t.counters[0] == before.counters[0] + (k == 0 ? 0u : k < 5 ? 1u : 2u));
+        CHECK(t.items[4 + 1] == (k < 2 ? 5u : 9u) && t.items[4 + 2] == (k < 3 ? UINT64_MAX : 50u));
+        CHECK(t.items[4 + 3] == (k < 4 ? 0u : 1u));
+        r = boughladder_read(LENT(t), 7, 720, 300);
+        CHECK(k == 0  ? reads(r, 0, BOUGHLADDER_OLD, 0, LEAST)
+              : k < 5 ? reads(r, BOUGHLADDER_BUSY, 0, 0, 0)
+                      : reads(r, 0, BOUGHLADDER_FRESH, 9, 470));
+        r = plainly(&t, 7, 720, 300);
+        CHECK(k < 3 ? reads(r, 0, BOUGHLADDER_OLD, 0, LEAST) : reads(r, 0, BOUGHLADDER_FRESH, 9, 470));
+        give_back(&t);
+    }
+
+    /* It goes as any other. Serve does not count her as here lately, so the hand takes her. */
+    t = with_retired(5, 0);
+    for (uint64_t animal = 6; animal <= 8; animal++)
+        CHECK(boughladder_serve(LENT(t), animal, 720, 300).kind == (animal == 7 ? BOUGHLADDER_OLD : BOUGHLADDER_FRESH));
+    CHECK(evicts(boughladder_evict(LENT(t), 0), 0, 7, 2, 2) && told(&t, BOUGHLADDER_SOUND, 0));
+    CHECK(sets(boughladder_set(LENT(t), 7, 9, 50, 300), 0, 1, 0) && t.items[4 + 2] == 50);
+    copy(&t, &before);
+    CHECK(boughladder_delete(LENT(t), 7) == 0 && told(&t, BOUGHLADDER_SOUND, 0));
+    CHECK(reads(boughladder_read(LENT(t), 7, 720, 300), 0, BOUGHLADDER_ABSENT, 0, 0));
+    for (size_t k = 4; k < 8; k++) CHECK(t.items[k] == 0);
+    give_back(&t), give_back(&before);
 }
 
 static void moves(void) {
@@ -634,33 +772,33 @@ static void moves(void) {
     Table t = lend(16, 4, 36), u, v;
     uint32_t first, second;
     CHECK(boughladder_fresh(LENT(t)) == 0);
-    for (uint32_t k = 0; k < 8; k++) CHECK(sets(boughladder_set(LENT(t), herd[k], k, 100, 100, 0), 0, 1, 0));
+    for (uint32_t k = 0; k < 8; k++) CHECK(sets(boughladder_set(LENT(t), herd[k], k, 100, 100), 0, 1, 0));
     CHECK(t.counters[0] == 16);
     agree(&t);
-    CHECK(sets(boughladder_set(LENT(t), 5, 9, 100, 100, 0), 0, 5, 1));
+    CHECK(sets(boughladder_set(LENT(t), 5, 9, 100, 100), 0, 5, 1));
     for (size_t k = 0; k < 16; k++) CHECK(t.slots[k] == words[k]);
     CHECK(t.counters[0] == 20);
     agree(&t);
     for (uint32_t k = 0; k < 8; k++)
         CHECK(reads(boughladder_read(LENT(t), herd[k], 720, 100), 0, BOUGHLADDER_FRESH, k, 720));
     CHECK(reads(boughladder_read(LENT(t), 5, 720, 100), 0, BOUGHLADDER_FRESH, 9, 720));
-    CHECK(sets(boughladder_set(LENT(t), 6, 9, 100, 100, 0), BOUGHLADDER_NO_PLACE, 0, 0));
+    CHECK(sets(boughladder_set(LENT(t), 6, 9, 100, 100), BOUGHLADDER_NO_PLACE, 0, 0));
     give_back(&t);
 
     /* N = 2: eight animals fill both buckets. */
     u = lend(8, 1, 36);
     CHECK(boughladder_fresh(LENT(u)) == 0);
-    for (uint64_t a = 1; a <= 8; a++) CHECK(sets(boughladder_set(LENT(u), a, 1, 100, 100, 0), 0, 1, 0));
-    CHECK(sets(boughladder_set(LENT(u), 9, 1, 100, 100, 0), BOUGHLADDER_NO_ROOM, 0, 0));
+    for (uint64_t a = 1; a <= 8; a++) CHECK(sets(boughladder_set(LENT(u), a, 1, 100, 100), 0, 1, 0));
+    CHECK(sets(boughladder_set(LENT(u), 9, 1, 100, 100), BOUGHLADDER_NO_ROOM, 0, 0));
     CHECK(is_sound(&u));
     give_back(&u);
 
     /* N = 4, one counter: two moves after twelve visits. */
     v = lend(16, 1, 52);
     CHECK(boughladder_fresh(LENT(v)) == 0);
-    for (uint32_t k = 0; k < 12; k++) CHECK(sets(boughladder_set(LENT(v), small[k], k, 100, 100, 0), 0, 1, 0));
+    for (uint32_t k = 0; k < 12; k++) CHECK(sets(boughladder_set(LENT(v), small[k], k, 100, 100), 0, 1, 0));
     first = v.slots[0], second = v.slots[13];
-    CHECK(sets(boughladder_set(LENT(v), 17, 9, 100, 100, 0), 0, 12, 2));
+    CHECK(sets(boughladder_set(LENT(v), 17, 9, 100, 100), 0, 12, 2));
     CHECK(v.slots[8] == second && v.slots[13] == first);
     agree(&v);
     give_back(&v);
@@ -671,7 +809,7 @@ static void clocks(void) {
     Table t = lend(16, 4, 12), u;
     CHECK(boughladder_fresh(LENT(t)) == 0);
     CHECK(evicts(boughladder_evict(LENT(t), 1), BOUGHLADDER_NOBODY, 0, 0, 1));
-    for (uint64_t a = 1; a <= 3; a++) CHECK(boughladder_set(LENT(t), a, 1, 100, 100, 0).refusal == 0);
+    for (uint64_t a = 1; a <= 3; a++) CHECK(boughladder_set(LENT(t), a, 1, 100, 100).refusal == 0);
     CHECK(evicts(boughladder_evict(LENT(t), 3), BOUGHLADDER_BAD_SHAPE, 0, 0, 3));
     CHECK(evicts(boughladder_evict(LENT(t), SIZE_MAX), BOUGHLADDER_BAD_SHAPE, 0, 0, SIZE_MAX));
     CHECK(evicts(boughladder_evict(LENT(t), 1), 0, 2, 4, 2));
@@ -698,7 +836,7 @@ static void the_list(void) {
     memset(buffer, 0xee, sizeof buffer);
     CHECK(boughladder_fresh(LENT(t)) == 0);
     CHECK(lists(boughladder_list(LENT(t), buffer, 0), 0, 0));
-    CHECK(boughladder_set(LENT(t), 1, 5, 2, 2, 0).refusal == 0);
+    CHECK(boughladder_set(LENT(t), 1, 5, 2, 2).refusal == 0);
     CHECK(lists(boughladder_list(LENT(t), buffer, 19), BOUGHLADDER_SHORT_BUFFER, 0));
     CHECK(buffer[0] == 0xee);
     CHECK(lists(boughladder_list(LENT(t), buffer, 20), 0, 1));
@@ -715,7 +853,7 @@ static void cuts(void) {
         Table t = lend(16, 1, 36);
         BoughladderReading r;
         CHECK(boughladder_fresh(LENT(t)) == 0);
-        CHECK(sets(boughladder_set_cut(LENT(t), 7, 5, 100, 100, 0, k), 0, 1, 0));
+        CHECK(sets(boughladder_set_cut(LENT(t), 7, 5, 100, 100, k), 0, 1, 0));
         CHECK(t.counters[0] == (k == 0 ? 0u : k < 7 ? 1u : 2u));
         CHECK(t.items[0] == (k < 2 ? 0u : 7u) && t.items[1] == (k < 3 ? 0u : 5u));
         CHECK(t.items[2] == (k < 4 ? 0u : 100u) && t.items[3] == (k < 5 ? 0u : 1u));
@@ -729,10 +867,10 @@ static void cuts(void) {
                     : reads(r, 0, BOUGHLADDER_FRESH, k < 3 ? 0 : 5, k < 4 ? 620 : 720));
         if (0 < k && k < 7) {
             CHECK(boughladder_delete(LENT(t), 7) == BOUGHLADDER_BUSY);
-            CHECK(sets(boughladder_set(LENT(t), 7, 5, 100, 100, 0), BOUGHLADDER_BUSY, 0, 0));
+            CHECK(sets(boughladder_set(LENT(t), 7, 5, 100, 100), BOUGHLADDER_BUSY, 0, 0));
             CHECK(finds(boughladder_find(LENT(t), 7), BOUGHLADDER_BUSY, 0, 0));
             CHECK(boughladder_fresh(LENT(t)) == 0);
-            CHECK(sets(boughladder_set(LENT(t), 7, 5, 100, 100, 0), 0, 1, 0));
+            CHECK(sets(boughladder_set(LENT(t), 7, 5, 100, 100), 0, 1, 0));
         }
         give_back(&t);
     }
@@ -740,7 +878,7 @@ static void cuts(void) {
     for (uint64_t k = 0; k <= 9; k++) {
         Table t = lend(16, 1, 36);
         CHECK(boughladder_fresh(LENT(t)) == 0);
-        CHECK(boughladder_set(LENT(t), 7, 5, 100, 100, 0).refusal == 0);
+        CHECK(boughladder_set(LENT(t), 7, 5, 100, 100).refusal == 0);
         CHECK(boughladder_delete_cut(LENT(t), 8, k) == BOUGHLADDER_NOBODY);
         CHECK(boughladder_delete_cut(LENT(t), 7, k) == 0);
         CHECK(t.counters[0] == (k == 0 ? 2u : k < 7 ? 3u : 4u));
@@ -761,7 +899,7 @@ static void put(Table *t, size_t place, uint64_t animal) {
 static void plain(void) {
     Table t = lend(16, 4, 36);
     CHECK(boughladder_fresh(LENT(t)) == 0);
-    CHECK(boughladder_set(LENT(t), 7, 5, 100, 100, 0).refusal == 0);
+    CHECK(boughladder_set(LENT(t), 7, 5, 100, 100).refusal == 0);
     CHECK(reads(plainly(&t, 7, 720, 820), 0, BOUGHLADDER_FRESH, 5, 0));
     CHECK(reads(plainly(&t, 7, 720, 821), 0, BOUGHLADDER_OLD, 0, -1));
     CHECK(reads(plainly(&t, 7, 720, 99), 0, BOUGHLADDER_AHEAD, 0, 0));
@@ -771,9 +909,10 @@ static void plain(void) {
     CHECK(reads(plainly(&t, 7, 0, UINT64_MAX - 1), 0, BOUGHLADDER_OLD, 0, BOUGHLADDER_LEAST_LEFT));
     CHECK(reads(plainly(&t, 8, 720, 820), 0, BOUGHLADDER_ABSENT, 0, 0));
     CHECK(reads(plainly(&t, 4294967303u, 720, 820), 0, BOUGHLADDER_ABSENT, 0, 0));
-    CHECK(boughladder_set(LENT(t), 7, 6, 100, 100, 1).refusal == 0);
-    CHECK(reads(plainly(&t, 7, 0, 0), 0, BOUGHLADDER_FRESH, 6, 0));
-    CHECK(reads(plainly(&t, 7, 720, UINT64_MAX - 1), 0, BOUGHLADDER_FRESH, 6, 720));
+    t.items[2] = UINT64_MAX;
+    CHECK(reads(plainly(&t, 7, 0, 0), 0, BOUGHLADDER_OLD, 0, BOUGHLADDER_LEAST_LEFT));
+    CHECK(reads(plainly(&t, 7, 10080, 100), 0, BOUGHLADDER_OLD, 0, BOUGHLADDER_LEAST_LEFT));
+    CHECK(reads(plainly(&t, 7, 720, UINT64_MAX - 1), 0, BOUGHLADDER_OLD, 0, BOUGHLADDER_LEAST_LEFT));
 
     /* 1, 2, 3 in this order: all reasons at once, and one after the other is taken away. */
     t.i = 35;
@@ -824,7 +963,7 @@ static void plain_walks(void) {
         CHECK(reads(plainly(&t, 9, 720, 820), 0, BOUGHLADDER_ABSENT, 0, 0));
     }
 
-    /* Twins: the first place, fresh, old or ahead, and whatever the other one is. */
+    /* Twins: the first place, fresh, old, ahead or retired, and whatever the other one is. */
     put(&t, 2, 7), put(&t, 6, 7);
     t.items[4 * 6 + 1] = 6, t.items[4 * 6 + 2] = 110;
     CHECK(reads(plainly(&t, 7, 720, 820), 0, BOUGHLADDER_FRESH, 5, 0));
@@ -832,9 +971,12 @@ static void plain_walks(void) {
     t.items[4 * 2 + 2] = 900;
     CHECK(reads(plainly(&t, 7, 720, 820), 0, BOUGHLADDER_AHEAD, 0, 0));
     t.items[4 * 2 + 2] = UINT64_MAX;
-    CHECK(reads(plainly(&t, 7, 720, 820), 0, BOUGHLADDER_FRESH, 5, 720));
+    CHECK(reads(plainly(&t, 7, 720, 820), 0, BOUGHLADDER_OLD, 0, LEAST));
     t.items[4 * 2] = 0;
     CHECK(reads(plainly(&t, 7, 720, 820), 0, BOUGHLADDER_FRESH, 6, 10));
+    t.items[4 * 2] = 7, t.items[4 * 2 + 2] = 100, t.items[4 * 6 + 2] = UINT64_MAX;
+    CHECK(reads(plainly(&t, 7, 720, 820), 0, BOUGHLADDER_FRESH, 5, 0));
+    t.items[4 * 6 + 2] = 110;
 
     /* A permission word modulo 2^32; a permission 0 is one too; any recent word. */
     put(&t, 2, 7);
@@ -852,7 +994,7 @@ static void plain_walks(void) {
     /* Where read refuses or misses her, the walk goes on. */
     CHECK(boughladder_fresh(LENT(t)) == 0);
     for (uint64_t animal = 6; animal <= 8; animal++)
-        CHECK(boughladder_set(LENT(t), animal, 5, 100, 100, 0).refusal == 0);
+        CHECK(boughladder_set(LENT(t), animal, 5, 100, 100).refusal == 0);
     copy(&before, &t);
     for (size_t k = 0; k < 4; k++) t.counters[k] = 1;
     CHECK(reads(boughladder_read(LENT(t), 7, 720, 820), BOUGHLADDER_BUSY, 0, 0, 0));
@@ -893,11 +1035,12 @@ static void wrong_lengths(void) {
     give_back(&t);
 }
 
-/* A table of 16 buckets, 5 counters and 12 places, of which 2, 6, 10 and 11 are vacant. */
+/* A table of 16 buckets, 5 counters and 12 places, of which 2, 6, 10 and 11 are vacant, and 3 is retired. */
 static Table herd_of_8(void) {
     Table t = lend(64, 5, 48);
     CHECK(boughladder_fresh(LENT(t)) == 0);
-    for (uint32_t a = 1; a <= 10; a++) CHECK(boughladder_set(LENT(t), a, a, 100, 100, a == 4).refusal == 0);
+    for (uint32_t a = 1; a <= 10; a++) CHECK(boughladder_set(LENT(t), a, a, 100, 100).refusal == 0);
+    t.items[4 * 3 + 2] = UINT64_MAX;
     CHECK(boughladder_delete(LENT(t), 3) == 0 && boughladder_delete(LENT(t), 7) == 0);
     return t;
 }
@@ -955,7 +1098,7 @@ static void words_judged(void) {
     /* Any even number will do, and the largest is followed by 0. */
     for (size_t k = 0; k < t.c; k++) t.counters[k] = UINT32_MAX - 1;
     CHECK(told(&t, BOUGHLADDER_SOUND, 0));
-    CHECK(sets(boughladder_set(LENT(t), 1, 9, 200, 200, 0), 0, 0, 0));
+    CHECK(sets(boughladder_set(LENT(t), 1, 9, 200, 200), 0, 0, 0));
     CHECK(told(&t, BOUGHLADDER_SOUND, 0));
     give_back(&t), give_back(&before);
 
@@ -963,7 +1106,7 @@ static void words_judged(void) {
     few = lend(8, 4, 4);
     CHECK(boughladder_fresh(LENT(few)) == 0);
     few.counters[3] = 7;
-    CHECK(boughladder_set(LENT(few), 7, 5, 100, 100, 0).refusal == 0);
+    CHECK(boughladder_set(LENT(few), 7, 5, 100, 100).refusal == 0);
     CHECK(told(&few, BOUGHLADDER_ODD_COUNTER, 3));
     few.counters[3] = 8;
     CHECK(told(&few, BOUGHLADDER_SOUND, 0));
@@ -1054,8 +1197,8 @@ static void places_judged(void) {
         }
     /* Numbers that differ only in their high half are others, and one whose low half is 0 is a number. */
     for (uint64_t high = 1; high <= 2; high++)
-        CHECK(boughladder_set(LENT(t), 7 + (high << 32), 1, 100, 100, 0).refusal == 0);
-    CHECK(boughladder_set(LENT(t), (uint64_t)1 << 32, 1, 100, 100, 0).refusal == 0 && t.items[4 * 10] >> 32 == 1);
+        CHECK(boughladder_set(LENT(t), 7 + (high << 32), 1, 100, 100).refusal == 0);
+    CHECK(boughladder_set(LENT(t), (uint64_t)1 << 32, 1, 100, 100).refusal == 0 && t.items[4 * 10] >> 32 == 1);
     CHECK(told(&t, BOUGHLADDER_SOUND, 0));
     t.slots[slot_of(&t, 10)] = 0;
     CHECK(told(&t, BOUGHLADDER_NOT_ONE_SLOT, 10));
@@ -1087,7 +1230,7 @@ static void places_judged(void) {
             copy(&t, &before);
         }
     }
-    /* Standing, old or ahead of all minutes, with any recent word: sound, and read takes her as plain read does. */
+    /* Retired, old or ahead of all minutes, with any recent word: sound, and read takes her as plain read does. */
     for (int v = 0; v < 5; v++) {
         t.items[2] = values[v], t.items[3] = values[4 - v];
         CHECK(told(&t, BOUGHLADDER_SOUND, 0));
@@ -1140,8 +1283,8 @@ static void ends_judged(void) {
     Table t = lend(8192, 1024, 16384), before = lend(8192, 1024, 16384), u = lend(8, 1, 4);
     uint32_t word;
     CHECK(boughladder_fresh(LENT(t)) == 0);
-    for (uint64_t a = 1; a <= 4096; a++) CHECK(boughladder_set(LENT(t), a * a, 1, 100, 100, 0).refusal == 0);
-    CHECK(sets(boughladder_set(LENT(t), 2, 1, 100, 100, 0), BOUGHLADDER_NO_PLACE, 0, 0));
+    for (uint64_t a = 1; a <= 4096; a++) CHECK(boughladder_set(LENT(t), a * a, 1, 100, 100).refusal == 0);
+    CHECK(sets(boughladder_set(LENT(t), 2, 1, 100, 100), BOUGHLADDER_NO_PLACE, 0, 0));
     CHECK(told(&t, BOUGHLADDER_SOUND, 0));
     copy(&before, &t);
     t.slots[8191] = 65536 + 4096;
@@ -1166,7 +1309,7 @@ static void ends_judged(void) {
 
     CHECK(boughladder_fresh(LENT(u)) == 0);
     CHECK(told(&u, BOUGHLADDER_SOUND, 0));
-    CHECK(boughladder_set(LENT(u), 7, 5, 100, 100, 0).refusal == 0);
+    CHECK(boughladder_set(LENT(u), 7, 5, 100, 100).refusal == 0);
     CHECK(told(&u, BOUGHLADDER_SOUND, 0));
     /* With two buckets every slot is a home. */
     word = u.slots[slot_of(&u, 0)];
@@ -1186,7 +1329,7 @@ static size_t odd_counter(const Table *t) {
     return k;
 }
 
-enum { SETTING, STANDING, DELETING, EVICTING };
+enum { SETTING, DELETING, EVICTING };
 
 /* A call cut at every k. It makes `before` stores in whole steps, moves of four stores or clears of one, and between
    them no counter is odd. Then come the stores of one entry, the first and the last of them to its counter. Judge says
@@ -1201,7 +1344,7 @@ static void cut_judged(const Table *whole, int call, uint64_t animal, uint64_t b
         copy(&t, whole);
         if (call == DELETING) CHECK(boughladder_delete_cut(LENT(t), animal, k) == 0);
         else if (call == EVICTING) CHECK(boughladder_evict_cut(LENT(t), 0, k).victim == animal);
-        else CHECK(boughladder_set_cut(LENT(t), animal, 9, 200, 200, call == STANDING, k).refusal == 0);
+        else CHECK(boughladder_set_cut(LENT(t), animal, 9, 200, 200, k).refusal == 0);
         CHECK((odd_counter(&t) == t.c) == even);
         CHECK(even ? told(&t, BOUGHLADDER_SOUND, 0) : told(&t, BOUGHLADDER_ODD_COUNTER, odd_counter(&t)));
         if (!even && k > before) {
@@ -1223,29 +1366,34 @@ static void cuts_judged(void) {
     static const uint64_t herd[8] = {358, 687, 1012, 1334, 248, 734, 913, 1710};
     static const uint64_t small[12] = {1, 5, 9, 13, 12, 16, 20, 24, 2, 6, 10, 14};
     Table t = herd_of_8();
-    for (int standing = SETTING; standing <= STANDING; standing++) {
-        cut_judged(&t, standing, 11, 0, 1, "0555500", 2);
-        cut_judged(&t, standing, 5, 0, 1, "00000", 4); /* an update: half an entry looks whole */
-    }
+    cut_judged(&t, SETTING, 11, 0, 1, "0555500", 2);
+    cut_judged(&t, SETTING, 5, 0, 1, "00000", 4); /* an update: half an entry looks whole */
+    cut_judged(&t, SETTING, 4, 0, 1, "00000", 3); /* the same over one that is retired */
     cut_judged(&t, DELETING, 5, 0, 1, "0588800", 4);
+    cut_judged(&t, DELETING, 4, 0, 1, "0588800", 3);
     cut_judged(&t, EVICTING, 1, 8, 1, "0588000", 0); /* eight clears; so her recent word is 0 already */
     t.items[4 * 3 + 3] = 0;
-    cut_judged(&t, EVICTING, 4, 2, 1, "0588000", 3); /* two are passed, and 4 was not here lately */
+    cut_judged(&t, EVICTING, 4, 2, 1, "0588000", 3); /* two are passed; 4, retired, was not here lately */
     give_back(&t);
 
     t = lend(16, 4, 36);
     CHECK(boughladder_fresh(LENT(t)) == 0);
-    for (uint32_t k = 0; k < 8; k++) CHECK(boughladder_set(LENT(t), herd[k], k, 100, 100, 0).refusal == 0);
+    for (uint32_t k = 0; k < 8; k++) CHECK(boughladder_set(LENT(t), herd[k], k, 100, 100).refusal == 0);
     CHECK(told(&t, BOUGHLADDER_SOUND, 0));
     cut_judged(&t, SETTING, 5, 4, 4, "0555500", 8);
-    CHECK(sets(boughladder_set(LENT(t), 5, 9, 100, 100, 0), 0, 5, 1) && told(&t, BOUGHLADDER_SOUND, 0));
+    CHECK(sets(boughladder_set(LENT(t), 5, 9, 100, 100), 0, 5, 1) && told(&t, BOUGHLADDER_SOUND, 0));
     give_back(&t);
 
     t = lend(16, 1, 52);
     CHECK(boughladder_fresh(LENT(t)) == 0);
-    for (uint32_t k = 0; k < 12; k++) CHECK(boughladder_set(LENT(t), small[k], k, 100, 100, 0).refusal == 0);
-    cut_judged(&t, STANDING, 17, 8, 4, "0555500", 12);
-    CHECK(sets(boughladder_set(LENT(t), 17, 9, 100, 100, 0), 0, 12, 2) && told(&t, BOUGHLADDER_SOUND, 0));
+    for (uint32_t k = 0; k < 12; k++) CHECK(boughladder_set(LENT(t), small[k], k, 100, 100).refusal == 0);
+    /* What is moved is retired, and stays so. */
+    for (size_t k = 0; k < 12; k++) t.items[4 * k + 2] = UINT64_MAX;
+    cut_judged(&t, SETTING, 17, 8, 4, "0555500", 12);
+    CHECK(sets(boughladder_set(LENT(t), 17, 9, 100, 100), 0, 12, 2) && told(&t, BOUGHLADDER_SOUND, 0));
+    for (size_t k = 0; k < 12; k++)
+        CHECK(reads(boughladder_read(LENT(t), small[k], 720, 100), 0, BOUGHLADDER_OLD, 0, LEAST));
+    agree(&t);
     give_back(&t);
 }
 
@@ -1279,15 +1427,16 @@ static void tamper(Table *t) {
         case 5: t->items[4 * place + 1] = edge() << any() % 2 * 32; break;
         case 6: t->items[4 * place + 2 + any() % 2] = edge(); break;
         case 7: t->slots[slot] = tag_of(0) * 65536 + (uint32_t)place; break;
-        default: /* a twin, where that place is vacant and that slot free */
-            if (t->slots[from] == 0 || t->items[4 * place] != 0) break;
+        default: /* a twin, where that place is vacant and that slot free; a change before may have damaged the word */
+            if (t->slots[from] == 0 || t->slots[from] % 65536 >= t->i / 4 || t->items[4 * place] != 0) break;
             t->items[4 * place] = t->items[4 * (t->slots[from] % 65536)];
             t->slots[from ^ (1 + any() % 3)] = t->slots[from] / 65536 * 65536 + (uint32_t)place;
     }
 }
 
 /* Garbage of some kind: words of any value, words that look right, few words, or a table that calls have made, in which
-   a few things were changed. Says whether it is such a table, in which only recent words were changed. */
+   some animals are retired and a few things were changed. Says whether it is such a table, in which only recent words
+   and stamps were changed. */
 static int spoil(Table *t) {
     unsigned kind = any() % 8;
     uint64_t places = t->i / 4 == 0 ? 1 : t->i / 4;
@@ -1295,9 +1444,12 @@ static int spoil(Table *t) {
         int made = boughladder_fresh(LENT(*t)) == 0;
         uint64_t n = made ? any() % 60 : 0;
         for (; n > 0; n--)
-            CHECK(boughladder_set(LENT(*t), any() % 40, (uint32_t)n, any() % 40, 40, n % 9 == 0).refusal != 1);
+            CHECK(boughladder_set(LENT(*t), any() % 40, (uint32_t)n, any() % 40, 40).refusal != 1);
         for (size_t k = 3; k < t->i; k += 4)
-            if (!made || t->items[k - 3] != 0) t->items[k] = any() % 2;
+            if (!made || t->items[k - 3] != 0) {
+                t->items[k] = any() % 2;
+                if (any() % 6 == 0) t->items[k - 1] = UINT64_MAX;
+            }
         if (kind > 4)
             for (n = made ? 1 + any() % 3 : 0; n > 0; n--) tamper(t);
         return made && kind == 4;
@@ -1311,8 +1463,9 @@ static int spoil(Table *t) {
     return 0;
 }
 
-/* How many sets on garbage were late, how often plain read walked on where read refuses, and what judge said. */
-static unsigned long late, walked_on, conditions[9];
+/* How many sets on garbage were late, how many replaced what is retired, how often serve met that, how often plain read
+   walked on where read refuses, and what judge said. */
+static unsigned long late, replaced, met_retired, walked_on, conditions[9];
 
 /* Every call on garbage: a refusal changes nothing, and the largest cut is the whole call. After a yes no call finds a
    damaged word or a busy counter, and what it leaves gets a yes. */
@@ -1322,8 +1475,9 @@ static void garbage(size_t s, size_t c, size_t i) {
     uint8_t *buffer = (uint8_t *)block(bytes);
     uint64_t animal = edge(), limit = edge(), now = edge(), k = any() % 12;
     uint64_t issued = any() % 4 == 0 ? edge() : any() % (now % 40 + 1);
-    uint32_t permission = (uint32_t)any(), standing = (uint32_t)(any() % 2), refusal, cut;
+    uint32_t permission = (uint32_t)any(), refusal, cut;
     BoughladderReading r, served, walk;
+    BoughladderFinding found;
     BoughladderJudgement judgement;
     int made, yes;
     BoughladderSetting set, set_cut;
@@ -1338,7 +1492,7 @@ static void garbage(size_t s, size_t c, size_t i) {
     CHECK(told(&t, judgement.condition, judgement.at) && (yes || !made));
     conditions[judgement.condition]++;
     r = boughladder_read(LENT(t), animal, limit, now);
-    CHECK(same(&t, &before) && r.refusal <= 10 && in_range(r, limit));
+    CHECK(same(&t, &before) && r.refusal <= 10 && in_range(r, limit) && of_a_place(&t, r, animal, limit, now));
     CHECK((r.refusal == BOUGHLADDER_BAD_SHAPE) == (judgement.condition == BOUGHLADDER_WRONG_LENGTH));
     CHECK(!yes || r.refusal <= 3);
     walk = plainly(&t, animal, limit, now);
@@ -1349,19 +1503,28 @@ static void garbage(size_t s, size_t c, size_t i) {
     CHECK(same(&t, &before) || r.kind == BOUGHLADDER_FRESH);
     CHECK(!yes || is_sound(&t));
     copy(&t, &before);
-    CHECK(boughladder_find(LENT(t), animal).refusal <= 10 && same(&t, &before));
+    found = boughladder_find(LENT(t), animal);
+    CHECK(found.refusal <= 10 && same(&t, &before));
 
-    set = boughladder_set(LENT(t), animal, permission, issued, now, standing);
+    set = boughladder_set(LENT(t), animal, permission, issued, now);
     CHECK(set.refusal <= 11 && (set.refusal == 0 || same(&t, &before)));
+    if (found.kind == BOUGHLADDER_AT_PLACE) {
+        /* Where she is held, only the stamp tells whether a list is late, and what is retired has no minute. */
+        uint64_t stamp = before.items[4 * found.place + 2];
+        int later = stamp > issued && stamp != UINT64_MAX, minutes = issued <= now && now != UINT64_MAX;
+        CHECK(set.refusal == (uint32_t)(!minutes ? BOUGHLADDER_BAD_TIME : later ? BOUGHLADDER_LATE : BOUGHLADDER_OK));
+        CHECK(r.refusal != 0 || alike(r, owed(before.items + 4 * found.place, limit, now)));
+        met_retired += r.refusal == 0 && stamp == UINT64_MAX, replaced += set.refusal == 0 && stamp == UINT64_MAX;
+    }
     CHECK(!yes || (set.refusal != BOUGHLADDER_DAMAGED && set.refusal != BOUGHLADDER_BUSY && is_sound(&t)));
     if (yes && set.refusal == 0)
         CHECK(reads(boughladder_read(LENT(t), animal, 720, issued), 0, BOUGHLADDER_FRESH, permission, 720));
     late += set.refusal == BOUGHLADDER_LATE;
     copy(&whole, &t), copy(&t, &before);
-    set_cut = boughladder_set_cut(LENT(t), animal, permission, issued, now, standing, UINT64_MAX);
+    set_cut = boughladder_set_cut(LENT(t), animal, permission, issued, now, BOUGHLADDER_ALL_STORES);
     CHECK(sets(set_cut, set.refusal, set.visits, set.moves) && same(&t, &whole));
     copy(&t, &before);
-    set_cut = boughladder_set_cut(LENT(t), animal, permission, issued, now, standing, k);
+    set_cut = boughladder_set_cut(LENT(t), animal, permission, issued, now, k);
     CHECK(sets(set_cut, set.refusal, set.visits, set.moves) && (k > 0 || same(&t, &before)));
     copy(&t, &before);
 
@@ -1370,7 +1533,7 @@ static void garbage(size_t s, size_t c, size_t i) {
     CHECK(!yes || (refusal != BOUGHLADDER_DAMAGED && refusal != BOUGHLADDER_BUSY && is_sound(&t)));
     if (yes && refusal == 0) CHECK(reads(boughladder_read(LENT(t), animal, 720, 720), 0, BOUGHLADDER_ABSENT, 0, 0));
     copy(&whole, &t), copy(&t, &before);
-    cut = boughladder_delete_cut(LENT(t), animal, UINT64_MAX);
+    cut = boughladder_delete_cut(LENT(t), animal, BOUGHLADDER_ALL_STORES);
     CHECK(cut == refusal && same(&t, &whole));
     copy(&t, &before);
     cut = boughladder_delete_cut(LENT(t), animal, k);
@@ -1381,7 +1544,7 @@ static void garbage(size_t s, size_t c, size_t i) {
     CHECK(out.refusal < 10 && (out.refusal == 0 || (out.hand == hand && same(&t, &before))));
     CHECK(!yes || (out.refusal != BOUGHLADDER_DAMAGED && out.refusal != BOUGHLADDER_BUSY && is_sound(&t)));
     copy(&whole, &t), copy(&t, &before);
-    out_cut = boughladder_evict_cut(LENT(t), hand, UINT64_MAX);
+    out_cut = boughladder_evict_cut(LENT(t), hand, BOUGHLADDER_ALL_STORES);
     CHECK(evicts(out_cut, out.refusal, out.victim, out.looked, out.hand) && same(&t, &whole));
     copy(&t, &before);
     out_cut = boughladder_evict_cut(LENT(t), hand, k);
@@ -1433,10 +1596,10 @@ static void another_workshop(int tables) {
             switch (any() % 5) {
                 case 0:
                 case 1:
-                    refusal = boughladder_set(LENT(t), animal, permission, now, now, 0).refusal;
+                    refusal = boughladder_set(LENT(t), animal, permission, now, now).refusal;
                     r = boughladder_read(LENT(t), animal, 720, now);
                     CHECK(refusal == 0 ? reads(r, 0, BOUGHLADDER_FRESH, permission, 720)
-                                       : refusal == BOUGHLADDER_LATE ? r.kind != BOUGHLADDER_ABSENT
+                                       : refusal == BOUGHLADDER_LATE ? r.kind == BOUGHLADDER_AHEAD
                                                                      : r.kind == BOUGHLADDER_ABSENT);
                     break;
                 case 2:
@@ -1469,7 +1632,7 @@ static void twins(int rounds, int cuts_too) {
     Table a = lend(32, 4, 40), b = lend(32, 4, 40);
     BoughladderTable t = {a.slots, a.s, a.counters, a.c, a.items, a.i};
     uint8_t one[BOUGHLADDER_LIST_BYTES(10)], other[BOUGHLADDER_LIST_BYTES(10)];
-    size_t hand = 0;
+    size_t hand = 0, place;
     CHECK(boughladder_table_fresh(&t) == 0 && boughladder_fresh(LENT(b)) == 0);
     for (int round = 0; round < rounds; round++) {
         uint64_t animal = any() % 14, now = any() % 900, issued = any() % 900, k = any() % 9;
@@ -1483,14 +1646,14 @@ static void twins(int rounds, int cuts_too) {
         memset(one, 0xee, sizeof one), memset(other, 0xee, sizeof other);
         switch (!cuts_too ? what % 8 : what < 12 ? what : what % 4 * 2) {
             case 0:
-                s = boughladder_set(LENT(b), animal, permission, issued, now, 0);
+                s = boughladder_set(LENT(b), animal, permission, issued, now);
                 s_table = boughladder_table_set(&t, animal, permission, issued, now);
                 CHECK(sets(s_table, s.refusal, s.visits, s.moves));
                 break;
             case 1:
-                s = boughladder_set(LENT(b), animal, permission, issued, now, 1);
-                s_table = boughladder_table_set_standing(&t, animal, permission, issued, now);
-                CHECK(sets(s_table, s.refusal, s.visits, s.moves));
+                /* No call: who is at that place is retired from here on. */
+                place = any() % (a.i / 4);
+                if (a.items[4 * place] != 0) a.items[4 * place + 2] = b.items[4 * place + 2] = BOUGHLADDER_RETIRED_MARK;
                 break;
             case 2:
                 r = boughladder_serve(LENT(b), animal, 720, now);
@@ -1520,13 +1683,13 @@ static void twins(int rounds, int cuts_too) {
                 CHECK(lists(boughladder_table_list(&t, one, sizeof one - 20 * (k % 3)), l.refusal, l.count));
                 break;
             case 8:
-                s = boughladder_set_cut(LENT(b), animal, permission, issued, now, 0, k);
+                s = boughladder_set_cut(LENT(b), animal, permission, issued, now, k);
                 s_table = boughladder_table_set_cut(&t, animal, permission, issued, now, k);
                 CHECK(sets(s_table, s.refusal, s.visits, s.moves));
                 break;
             case 9:
-                s = boughladder_set_cut(LENT(b), animal, permission, issued, now, 1, k);
-                s_table = boughladder_table_set_standing_cut(&t, animal, permission, issued, now, k);
+                s = boughladder_set(LENT(b), animal, permission, issued, now);
+                s_table = boughladder_table_set_cut(&t, animal, permission, issued, now, BOUGHLADDER_ALL_STORES);
                 CHECK(sets(s_table, s.refusal, s.visits, s.moves));
                 break;
             case 10:
@@ -1550,7 +1713,8 @@ static void twins(int rounds, int cuts_too) {
 int main(int n, char **words) {
     int rounds = n > 1 ? atoi(words[1]) : 400;
     layout(), hashes(), shapes(), sizes(), nothing_lent(), lanes(), texts(), records();
-    ages(), lefts(), issues(), turns(), moves(), clocks(), the_list(), cuts(), plain(), plain_walks();
+    ages(), lefts(), issues(), turns(0), turns(1), retired(), retired_replaced();
+    moves(), clocks(), the_list(), cuts(), plain(), plain_walks();
     wrong_lengths(), words_judged(), slots_judged(), places_judged(), conditions_in_turn(), ends_judged();
     cuts_judged();
     twins(3000, 1), twins(300, 0), another_workshop(60);
@@ -1565,7 +1729,7 @@ int main(int n, char **words) {
         garbage((size_t)8 << any() % 11, 1 + any() % 1024, 4 * (1 + any() % 1024));
         for (int small = 0; small < 8; small++) garbage((size_t)8 << any() % 4, 1 + any() % 4, 4 * (1 + any() % 24));
     }
-    CHECK(late > 0 && walked_on > 0);
+    CHECK(late > 0 && replaced > 0 && met_retired > 0 && walked_on > 0);
     for (int k = 0; k < 9; k++) CHECK(conditions[k] > 0);
     if (failed != 0) {
         printf("%lu checks failed\n", failed);

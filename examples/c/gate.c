@@ -1,5 +1,5 @@
-/* A gate: it makes a table, loads lists, a late one too, serves a few cows, and says why one is held. At the end the
-   auditor's plain read goes over the list. Run by run. */
+/* A gate: it makes a table, loads lists, a late one too, serves a few cows and the bull, and says why one is held. At
+   the end the auditor's plain read goes over the list, which has an entry from before 4.0.0. Run by run. */
 #include <inttypes.h>
 #include <stdio.h>
 #include <stdlib.h>
@@ -7,7 +7,7 @@
 #include "boughladder.h"
 
 /* The lent memory: 64 buckets, 64 counters, 200 places. */
-enum { PLACES = 200, LIMIT = 720 };
+enum { PLACES = 200, LIMIT = 720, WEEK = BOUGHLADDER_LARGEST_LIMIT, BULL = 900 };
 static uint32_t slots[BOUGHLADDER_SLOTS(64)];
 static uint32_t counters[64];
 static uint64_t items[BOUGHLADDER_ITEMS(PLACES)];
@@ -20,14 +20,17 @@ typedef struct {
     struct {
         uint64_t animal;
         uint32_t permission;
-        int standing;
-    } cow[4];
+    } cow[3];
 } List;
-static const List yesterday = {100, 4, {{3101, 1, 0}, {3102, 3, 0}, {3103, 0, 0}, {3104, 2, 1}}};
-static const List today = {890, 2, {{3101, 0, 0}, {3102, 3, 0}}}; /* 3101 was treated */
+static const List yesterday = {100, 3, {{3101, 1}, {3102, 3}, {3103, 0}}};
+static const List today = {890, 2, {{3101, 0}, {3102, 3}}}; /* 3101 was treated */
+/* The bull's permission is issued anew each week, and a week is his limit. */
+static const List this_week = {100, 1, {{BULL, 2}}}, next_week = {10180, 1, {{BULL, 2}}};
 
 /* What was not as expected is counted. */
 static int wrong;
+
+static const char *called(uint64_t animal) { return animal == BULL ? "bull" : "cow"; }
 
 static void begin(void) {
     uint32_t refusal = boughladder_table_fresh(&table);
@@ -42,17 +45,16 @@ static void load(const List *list, uint64_t now, unsigned expected) {
     for (i = 0; i < list->cows; i++) {
         uint64_t animal = list->cow[i].animal;
         uint32_t permission = list->cow[i].permission;
-        BoughladderSetting stored =
-            list->cow[i].standing ? boughladder_table_set_standing(&table, animal, permission, list->issued, now)
-                                  : boughladder_table_set(&table, animal, permission, list->issued, now);
+        BoughladderSetting stored = boughladder_table_set(&table, animal, permission, list->issued, now);
         if (stored.refusal != 0)
-            printf("cow %" PRIu64 " not stored: refusal %" PRIu32 ", %s\n", animal, stored.refusal,
+            printf("%s %" PRIu64 " not stored: refusal %" PRIu32 ", %s\n", called(animal), animal, stored.refusal,
                    boughladder_refusal_text(stored.refusal));
         else
             loaded++;
     }
     wrong += loaded != expected;
-    printf("minute %" PRIu64 ": %u permissions loaded, issued in minute %" PRIu64 "\n", now, loaded, list->issued);
+    printf("minute %" PRIu64 ": %u permission%s loaded, issued in minute %" PRIu64 "\n", now, loaded,
+           loaded == 1 ? "" : "s", list->issued);
 }
 
 /* The lane decides; the rest of the answer only says why. */
@@ -61,17 +63,19 @@ static void serve(uint64_t animal, uint64_t limit, uint64_t now, enum Boughladde
     BoughladderReading r = boughladder_table_serve(&table, animal, limit, now);
     enum BoughladderLane lane = boughladder_lane(r);
     wrong += lane != expected;
-    printf("minute %" PRIu64 ": cow %" PRIu64 " %s: ", now, animal, lanes[lane]);
+    printf("minute %" PRIu64 ": %s %" PRIu64 " %s: ", now, called(animal), animal, lanes[lane]);
     if (r.refusal != 0)
         printf("refusal %u, %s\n", (unsigned)r.refusal, boughladder_refusal_text(r.refusal));
     else if (r.kind == BOUGHLADDER_FRESH)
         printf("fresh, permission %" PRIu32 ", %" PRId64 " minute%s left\n", r.permission, r.left, r.left == 1 ? "" : "s");
+    else if (r.kind == BOUGHLADDER_OLD && r.left == BOUGHLADDER_LEAST_LEFT)
+        printf("old, overdue by as much as is ever told\n");
     else if (r.kind == BOUGHLADDER_OLD)
         printf("old, %" PRId64 " minute%s overdue\n", -r.left, r.left == -1 ? "" : "s");
     else if (r.kind == BOUGHLADDER_AHEAD)
-        printf("ahead, her permission is stamped later than now\n");
+        printf("ahead, the permission is stamped later than now\n");
     else
-        printf("absent, no permission came for her\n");
+        printf("absent, no permission came\n");
 }
 
 /* For the auditor: whether plain read, which knows no hashing, answers as read. */
@@ -89,20 +93,21 @@ int main(void) {
     BoughladderListing list;
 
     begin();
-    load(&yesterday, 110, 4);
+    load(&yesterday, 110, 3);
+    load(&this_week, 110, 1);
     serve(3101, LIMIT, 820, BOUGHLADDER_MILKING);
-    serve(3102, LIMIT, 821, BOUGHLADDER_HOLDING);   /* a minute too late */
-    serve(3103, LIMIT, 820, BOUGHLADDER_HOLDING);   /* fresh, and no bit is set */
-    serve(3104, LIMIT, 90000, BOUGHLADDER_GRAZING); /* standing: always fresh */
-    serve(3102, LIMIT, 99, BOUGHLADDER_HOLDING);    /* the clock was set back */
-    serve(4711, LIMIT, 200, BOUGHLADDER_HOLDING);   /* not on the list */
+    serve(3102, LIMIT, 821, BOUGHLADDER_HOLDING); /* a minute too late */
+    serve(3103, LIMIT, 820, BOUGHLADDER_HOLDING); /* fresh, and no bit is set */
+    serve(BULL, WEEK, 821, BOUGHLADDER_GRAZING);  /* as old as theirs, by another limit */
+    serve(3102, LIMIT, 99, BOUGHLADDER_HOLDING);  /* the clock was set back */
+    serve(4711, LIMIT, 200, BOUGHLADDER_HOLDING); /* not on the list */
     serve(0, LIMIT, 200, BOUGHLADDER_HOLDING);
     serve(3101, 20000, 200, BOUGHLADDER_HOLDING);
 
     /* The network was down. Today's list comes first, and then the relay delivers yesterday's once more. Who is on
        today's keeps it; for the others nothing later is held, and their permissions are as old as they are. */
     load(&today, 900, 2);
-    load(&yesterday, 905, 2);
+    load(&yesterday, 905, 1);
     serve(3101, LIMIT, 906, BOUGHLADDER_HOLDING);
     serve(3102, LIMIT, 906, BOUGHLADDER_MILKING);
     serve(3103, LIMIT, 906, BOUGHLADDER_HOLDING);
@@ -123,7 +128,13 @@ int main(void) {
     wrong += agreed(3102, 914); /* plain read finds her still: no reason to open, and the auditor sees the damage */
     begin();
     load(&today, 915, 2);
-    load(&yesterday, 916, 2);
+    load(&yesterday, 916, 1);
+    load(&this_week, 916, 1);
+
+    /* As a table from before 4.0.0 may hold him: his permission was a standing one. It is retired and opens no gate. */
+    at = boughladder_table_find(&table, BULL);
+    items[4 * at.place + 2] = BOUGHLADDER_RETIRED_MARK;
+    serve(BULL, WEEK, 917, BOUGHLADDER_HOLDING);
 
     /* Room is made: the hand takes the first cow that was not here lately, after it has passed all once. */
     gone = boughladder_table_evict(&table, hand);
@@ -135,11 +146,18 @@ int main(void) {
         BoughladderRecord record = boughladder_record(buffer, i);
         int audited = agreed(record.animal, 920);
         wrong += !audited;
-        printf("listed%s: cow %" PRIu64 ", permission %" PRIu32, audited ? " and audited" : "", record.animal,
-               record.permission);
-        if (record.stamp == BOUGHLADDER_STANDING) puts(", standing");
+        printf("listed%s: %s %" PRIu64 ", permission %" PRIu32, audited ? " and audited" : "", called(record.animal),
+               record.animal, record.permission);
+        if (record.stamp == BOUGHLADDER_RETIRED_MARK) puts(", retired");
         else printf(", minute %" PRIu64 "\n", record.stamp);
     }
+
+    /* Any list of his replaces it, and from then on age decides: in time for a week, and then only by the next list. */
+    load(&this_week, 921, 1);
+    serve(BULL, WEEK, 10180, BOUGHLADDER_GRAZING);
+    serve(BULL, WEEK, 10181, BOUGHLADDER_HOLDING);
+    load(&next_week, 10182, 1);
+    serve(BULL, WEEK, 10182, BOUGHLADDER_GRAZING);
     printf("gate: the list has %u records\n", (unsigned)list.count);
     return list.refusal == 0 && wrong == 0 ? 0 : 1;
 }

@@ -16,8 +16,11 @@ uint16_t wrong(uint32_t *pointer, const BoughladderTable *read_only, uint64_t li
     answer = (uint16_t)(answer + boughladder_table_plain_read(read_only, 1, 2, 3).kind);
     answer = (uint16_t)(answer + boughladder_plain_read(items, 800, 1, 2, 3).kind);
     answer = (uint16_t)(answer + boughladder_table_set(&table, 1, 2, 3, 4).refusal);
-    answer = (uint16_t)(answer + boughladder_table_set_standing(&table, 1, 2, 3, 4).refusal);
-    answer = (uint16_t)(answer + boughladder_set(slots, 256, counters, 16, items, 800, 1, 2, 3, 4, 0).refusal);
+    answer = (uint16_t)(answer + boughladder_table_set_cut(&table, 1, 2, 3, 4, BOUGHLADDER_ALL_STORES).refusal);
+    answer = (uint16_t)(answer + boughladder_set(slots, 256, counters, 16, items, 800, 1, 2, 3, 4).refusal);
+    answer = (uint16_t)(answer + boughladder_set_cut(slots, 256, counters, 16, items, 800, 1, 2, 3, 4, 5).refusal);
+    answer = (uint16_t)(answer + boughladder_table_read(&table, 1, 2, BOUGHLADDER_NO_MINUTE).refusal);
+    answer = (uint16_t)(answer + (items[2] == BOUGHLADDER_RETIRED_MARK));
     answer = (uint16_t)(answer + (boughladder_table_read(&table, 1, limit, 3).left == BOUGHLADDER_LEAST_LEFT));
     answer = (uint16_t)(answer + boughladder_table_judge(read_only).condition);
     answer = (uint16_t)(answer + boughladder_judge(slots, 256, counters, 16, items, 800).at);
@@ -39,12 +42,12 @@ uint16_t wrong(uint32_t *pointer, const BoughladderTable *read_only, uint64_t li
     boughladder_delete(slots, 256, counters, 16, items, 800, 1);
 #elif WRONG == 9 /* a task that may only read serves */
     answer = boughladder_table_serve(read_only, 1, 2, 3).kind;
-#elif WRONG == 10 /* a caller of 1.0.0, without the issue minute */
+#elif WRONG == 10 /* a caller of 1.0.0, without the issue minute; over the runs it compiles, and is refused */
     answer = (uint16_t)boughladder_table_set(&table, 1, 2, 4).refusal;
 #elif WRONG == 11 /* the same with a standing permission */
     answer = (uint16_t)boughladder_table_set_standing(&table, 1, 2).refusal;
-#elif WRONG == 12 /* the same with a call over the runs */
-    answer = (uint16_t)boughladder_set(slots, 256, counters, 16, items, 800, 1, 2, 4, 0).refusal;
+#elif WRONG == 12 /* the same with the cut form */
+    answer = (uint16_t)boughladder_table_set_cut(&table, 1, 2, 4, 5).refusal;
 #elif WRONG == 13 /* a plain read of the slots */
     answer = boughladder_plain_read(slots, 256, 1, 2, 3).kind;
 #elif WRONG == 14 /* a plain read that is lent the whole table */
@@ -67,6 +70,16 @@ uint16_t wrong(uint32_t *pointer, const BoughladderTable *read_only, uint64_t li
     answer = (uint16_t)boughladder_judge(items, 800, counters, 16, slots, 256).condition;
 #elif WRONG == 23 /* judge refuses nothing: a judgement whose refusal is asked for */
     answer = (uint16_t)boughladder_table_judge(&table).refusal;
+#elif WRONG == 24 /* a caller of 3.x, which sets a standing permission */
+    answer = (uint16_t)boughladder_table_set_standing(&table, 1, 2, 3, 4).refusal;
+#elif WRONG == 25 /* the same with the cut form */
+    answer = (uint16_t)boughladder_table_set_standing_cut(&table, 1, 2, 3, 4, 5).refusal;
+#elif WRONG == 26 /* the same with a call over the runs, which says that it is not standing */
+    answer = (uint16_t)boughladder_set(slots, 256, counters, 16, items, 800, 1, 2, 3, 4, 0).refusal;
+#elif WRONG == 27 /* the same with its cut form */
+    answer = (uint16_t)boughladder_set_cut(slots, 256, counters, 16, items, 800, 1, 2, 3, 4, 0, 5).refusal;
+#elif WRONG == 28 /* a caller of 3.x, which looks for standing stamps in a list */
+    answer = items[2] == BOUGHLADDER_STANDING;
 #endif
 #if WRONG >= 1 && WRONG <= 5
     answer = (uint16_t)other.slots_length;

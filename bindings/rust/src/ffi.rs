@@ -52,9 +52,9 @@ extern "C" {
     pub fn boughladder_find(s: *const u32, sl: usize, c: *const u32, cl: usize, i: *const u64, il: usize,
         animal: u64) -> Finding;
     pub fn boughladder_set(s: *mut u32, sl: usize, c: *mut u32, cl: usize, i: *mut u64, il: usize,
-        animal: u64, permission: u32, issued: u64, now: u64, standing: u32) -> Setting;
+        animal: u64, permission: u32, issued: u64, now: u64) -> Setting;
     pub fn boughladder_set_cut(s: *mut u32, sl: usize, c: *mut u32, cl: usize, i: *mut u64, il: usize,
-        animal: u64, permission: u32, issued: u64, now: u64, standing: u32, k: u64) -> Setting;
+        animal: u64, permission: u32, issued: u64, now: u64, k: u64) -> Setting;
     pub fn boughladder_delete(s: *mut u32, sl: usize, c: *mut u32, cl: usize, i: *mut u64, il: usize,
         animal: u64) -> u32;
     pub fn boughladder_delete_cut(s: *mut u32, sl: usize, c: *mut u32, cl: usize, i: *mut u64, il: usize,

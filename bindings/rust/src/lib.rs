@@ -20,6 +20,10 @@
 //! now; where it is later, now becomes the stamp, which is wrong. A list that was issued before what is held is
 //! [`Refusal::Late`], and nothing else stops a late list: after a delete or an eviction it is stored. What came with
 //! minutes that ran ahead makes every true list late until the animal is deleted.
+//!
+//! Standing permissions are retired: no set makes one. A table from before 4.0.0 may hold some, stamped
+//! [`RETIRED_MARK`]. Such an entry is old with [`LEAST_LEFT`] at every minute and under every limit, so it opens no
+//! gate, and serve leaves it alone. No list is late for it: the next set replaces it. The list has it as it is stored.
 
 mod ffi;
 
@@ -46,8 +50,12 @@ pub const RECORD_BYTES: usize = 20;
 pub const LARGEST_LIMIT: u64 = 10080;
 /// The least that is told to be left, -2^62 minutes: what would be less is told as this.
 pub const LEAST_LEFT: i64 = -(1 << 62);
-/// The stamp of a standing permission. It is no minute.
-pub const STANDING: u64 = u64::MAX;
+/// As now: no minute, [`Refusal::BadTime`].
+pub const NO_MINUTE: u64 = u64::MAX;
+/// As the stamp of an entry: a standing permission from before 4.0.0, which is retired.
+pub const RETIRED_MARK: u64 = u64::MAX;
+/// As k of a cut form: nothing is cut off.
+pub const ALL_STORES: u64 = u64::MAX;
 /// Bit 0 of a permission.
 pub const MAY_MILK: u32 = 1;
 /// Bit 1 of a permission.
@@ -60,7 +68,7 @@ pub enum Refusal {
     BadShape,
     /// The animal number is 0.
     NoAnimal,
-    /// The limit is above 10,080 minutes, now is 2^64 - 1, or issued is later than now.
+    /// The limit is above 10,080 minutes, now is [`NO_MINUTE`], or issued is later than now.
     BadTime,
     /// A damaged word was read, or evict's victim has no slot. Make it fresh and load the list again.
     Damaged,
@@ -76,7 +84,7 @@ pub enum Refusal {
     ShortBuffer,
     /// The hand found no victim: proved never to come.
     NoVictim,
-    /// Set of a held animal: its stamp is later than issued, and neither is standing. It keeps what it has.
+    /// Set of a held animal: its stamp is later than issued, and not retired. It keeps what it has.
     Late,
     /// A number that this crate does not know: the archive is of another version.
     Unknown(u32),
@@ -148,9 +156,10 @@ impl std::error::Error for Refusal {}
 pub enum Reading {
     /// The animal is not held.
     Absent,
-    /// A permission within the limit: 0 is left in the last good minute. A standing one has the whole limit left.
+    /// A permission within the limit: 0 is left in the last good minute.
     Fresh { permission: u32, left: i64 },
-    /// A permission beyond the limit, which is not told: `left` is below 0, and `-left` are the minutes overdue.
+    /// A permission beyond the limit, which is not told: `left` is below 0, and `-left` are the minutes overdue. Or one
+    /// that is retired: `left` is [`LEAST_LEFT`].
     Old { left: i64 },
     /// The stamp is later than now.
     Ahead,
@@ -292,7 +301,7 @@ impl fmt::Display for Judgement {
 pub struct Record {
     pub animal: u64,
     pub permission: u32,
-    /// A minute, or [`STANDING`].
+    /// A minute, or [`RETIRED_MARK`].
     pub stamp: u64,
 }
 
@@ -434,7 +443,7 @@ impl Table<'_> {
         done(writes!(self, boughladder_fresh), ())
     }
 
-    /// Says whether the animal's permission is fresh: held, not ahead of now and at most limit minutes old; or standing.
+    /// Says whether the animal's permission is fresh: held, not ahead of now and at most limit minutes old.
     pub fn read(&self, animal: u64, limit: u64, now: u64) -> Result<Reading, Refusal> {
         told(reads!(self, boughladder_read, animal, limit, now))
     }
@@ -450,31 +459,15 @@ impl Table<'_> {
         done(r.refusal, if r.kind == 0 { None } else { Some(r.place) })
     }
 
-    /// Stores a permission with the stamp issued, over the one that is held unless that has a later stamp.
+    /// Stores a permission with the stamp issued, over the one that is held unless that has a later stamp and is not
+    /// retired.
     pub fn set(&mut self, animal: u64, permission: u32, issued: u64, now: u64) -> Result<Stored, Refusal> {
-        stored(writes!(self, boughladder_set, animal, permission, issued, now, 0))
-    }
-
-    /// Stores a standing permission, over any: always fresh, the whole limit left. Its minutes are only tested.
-    pub fn set_standing(&mut self, animal: u64, permission: u32, issued: u64, now: u64) -> Result<Stored, Refusal> {
-        stored(writes!(self, boughladder_set, animal, permission, issued, now, 1))
+        stored(writes!(self, boughladder_set, animal, permission, issued, now))
     }
 
     /// Set, of which only the first k stores are made, as a loss of power leaves it.
     pub fn set_cut(&mut self, animal: u64, permission: u32, issued: u64, now: u64, k: u64) -> Result<Stored, Refusal> {
-        stored(writes!(self, boughladder_set_cut, animal, permission, issued, now, 0, k))
-    }
-
-    /// Set of a standing permission, of which only the first k stores are made.
-    pub fn set_standing_cut(
-        &mut self,
-        animal: u64,
-        permission: u32,
-        issued: u64,
-        now: u64,
-        k: u64,
-    ) -> Result<Stored, Refusal> {
-        stored(writes!(self, boughladder_set_cut, animal, permission, issued, now, 1, k))
+        stored(writes!(self, boughladder_set_cut, animal, permission, issued, now, k))
     }
 
     /// Takes the animal's entry away.

@@ -1,4 +1,5 @@
-// The order's examples and samples/network-drop.calls with its answers. bindings/python/test_story.py tells the same.
+// The order's examples, samples/network-drop.calls with its answers, and the cabinet of samples/retired.calls.
+// bindings/python/test_story.py tells the same.
 use boughladder::*;
 
 struct Memory {
@@ -24,6 +25,13 @@ fn stored(visits: usize, moves: usize) -> Result<Stored, Refusal> {
 
 fn fresh(permission: u32, left: i64) -> Result<Reading, Refusal> {
     Ok(Reading::Fresh { permission, left })
+}
+
+// What is said of an entry that is retired, at every minute and under every limit.
+const RETIRED: Result<Reading, Refusal> = Ok(Reading::Old { left: LEAST_LEFT });
+
+fn words(table: &Table) -> (Vec<u32>, Vec<u32>, Vec<u64>) {
+    (table.slots.to_vec(), table.counters.to_vec(), table.items.to_vec())
 }
 
 #[test]
@@ -61,12 +69,16 @@ fn ages() {
     assert_eq!(table.read(8, 720, 100), Ok(Reading::Absent));
     assert_eq!(table.read(7, LARGEST_LIMIT, 10180), fresh(5, 0));
     assert_eq!(table.read(7, LARGEST_LIMIT + 1, 100), Err(Refusal::BadTime));
-    assert_eq!(table.read(7, 720, u64::MAX), Err(Refusal::BadTime));
-    assert_eq!(table.set(7, 5, u64::MAX, u64::MAX), Err(Refusal::BadTime));
+    assert_eq!(table.read(7, 720, NO_MINUTE), Err(Refusal::BadTime));
+    assert_eq!(table.set(7, 5, NO_MINUTE, NO_MINUTE), Err(Refusal::BadTime));
     assert_eq!(table.read(0, 720, 100), Err(Refusal::NoAnimal));
-    assert_eq!(table.set_standing(7, 6, 100, 100), stored(0, 0));
-    assert_eq!(table.read(7, 0, u64::MAX - 1), fresh(6, 0));
-    assert_eq!(table.items[..4], [7, 6, STANDING, 1]);
+    assert_eq!(table.set_cut(7, 6, 200, 200, ALL_STORES), stored(0, 0));
+    assert_eq!(table.items[..4], [7, 6, 200, 1]);
+    // As a table from before 4.0.0 may hold her.
+    table.items[2] = RETIRED_MARK;
+    assert_eq!(table.read(7, 0, u64::MAX - 1), RETIRED);
+    assert_eq!(table.read(7, 720, 200), RETIRED);
+    assert_eq!((NO_MINUTE, RETIRED_MARK, ALL_STORES), (u64::MAX, u64::MAX, u64::MAX));
 }
 
 // What read, plain read and serve say of a held animal with that stamp; serve marks her where she is fresh.
@@ -74,10 +86,13 @@ fn of_stamp(stamp: u64, limit: u64, now: u64) -> Result<Reading, Refusal> {
     let mut memory = lent(slots(8), 4, items(1));
     let mut table = holding(&mut memory);
     table.items[2] = stamp;
+    let mut before = words(&table);
     let said = table.read(7, limit, now);
     assert_eq!(plainly(&table, 7, limit, now), said);
+    assert_eq!(words(&table), before);
     assert_eq!(table.serve(7, limit, now), said);
-    assert_eq!(table.items[3] == 1, matches!(said, Ok(Reading::Fresh { .. })));
+    before.2[3] = u64::from(matches!(said, Ok(Reading::Fresh { .. })));
+    assert_eq!(words(&table), before);
     said
 }
 
@@ -87,7 +102,7 @@ fn what_is_left() {
     assert_eq!(LEAST_LEFT, -4611686018427387904);
     for limit in [0, 1, 720, LARGEST_LIMIT] {
         let whole = limit as i64;
-        for stamp in [0, 100, 1 << 62] {
+        for stamp in [0, 100, (1 << 32) - 1, 1 << 62] {
             let last = stamp + limit;
             assert_eq!(of_stamp(stamp, limit, stamp), fresh(5, whole));
             assert_eq!(of_stamp(stamp, limit, last), fresh(5, 0));
@@ -100,10 +115,13 @@ fn what_is_left() {
             }
             assert_eq!(of_stamp(stamp, limit, u64::MAX - 1), old(LEAST_LEFT));
             assert_eq!(of_stamp(stamp + 1, limit, stamp), Ok(Reading::Ahead));
-            assert_eq!(of_stamp(STANDING, limit, stamp), fresh(5, whole));
+            assert_eq!(of_stamp(RETIRED_MARK, limit, stamp), RETIRED);
+            assert_eq!(of_stamp(RETIRED_MARK, limit, last), RETIRED);
         }
+        // The largest minute is no mark.
         assert_eq!(of_stamp(u64::MAX - 1, limit, 0), Ok(Reading::Ahead));
-        assert_eq!(of_stamp(STANDING, limit, u64::MAX - 1), fresh(5, whole));
+        assert_eq!(of_stamp(u64::MAX - 1, limit, u64::MAX - 1), fresh(5, whole));
+        assert_eq!(of_stamp(RETIRED_MARK, limit, u64::MAX - 1), RETIRED);
     }
 }
 
@@ -124,8 +142,9 @@ fn the_network_drops() {
     assert_eq!(lane(table.serve(4711, 720, 821)), Lane::Holding);
     assert_eq!(table.serve(4712, 720, 840), Ok(Reading::Old { left: -20 }));
     assert_eq!(table.serve(4713, 720, 840), Ok(Reading::Old { left: -20 }));
-    assert_eq!(table.set_standing(900, 2, 840, 840), stored(1, 0));
-    assert_eq!(table.serve(900, 720, 840), fresh(2, 720));
+    // The bull gets a new permission each week, and a week is his limit. This one was issued at 60.
+    assert_eq!(table.set(900, 2, 60, 840), stored(1, 0));
+    assert_eq!(table.serve(900, LARGEST_LIMIT, 840), fresh(2, 9300));
     assert_eq!(table.serve(4799, 720, 840), Ok(Reading::Absent));
     assert_eq!(table.read(4711, 10080, 840), fresh(1, 9340));
     assert_eq!(table.read(4711, 10081, 840), Err(Refusal::BadTime));
@@ -166,12 +185,12 @@ fn the_network_drops() {
         text,
         "6712000000000000010000007a03000000000000\
          6812000000000000000000007a03000000000000\
-         840300000000000002000000ffffffffffffffff\
+         8403000000000000020000003c00000000000000\
          6a12000000000000010000007a03000000000000\
          6b12000000000000010000006400000000000000"
     );
     let told: Vec<_> = records.map(|record| (record.animal, record.permission, record.stamp)).collect();
-    assert_eq!(told, [(4711, 1, 890), (4712, 0, 890), (900, 2, STANDING), (4714, 1, 890), (4715, 1, 100)]);
+    assert_eq!(told, [(4711, 1, 890), (4712, 0, 890), (900, 2, 60), (4714, 1, 890), (4715, 1, 100)]);
     assert_eq!(buffer[100..], [0xee; 4]);
 }
 
@@ -185,15 +204,12 @@ fn holding(memory: &mut Memory) -> Table<'_> {
 }
 
 // What a set and its cut form say, both of which must refuse and leave every word as it was.
-fn refused(table: &mut Table, animal: u64, issued: u64, now: u64, standing: bool) -> Refusal {
-    let words = |table: &Table| (table.slots.to_vec(), table.counters.to_vec(), table.items.to_vec());
+fn refused(table: &mut Table, animal: u64, issued: u64, now: u64) -> Refusal {
     let before = words(table);
-    let (whole, cut) = if standing {
-        (table.set_standing(animal, 9, issued, now), table.set_standing_cut(animal, 9, issued, now, 5))
-    } else {
-        (table.set(animal, 9, issued, now), table.set_cut(animal, 9, issued, now, 5))
-    };
-    assert_eq!(whole, cut);
+    let whole = table.set(animal, 9, issued, now);
+    for k in [0, 5, ALL_STORES] {
+        assert_eq!(table.set_cut(animal, 9, issued, now, k), whole);
+    }
     assert_eq!(words(table), before);
     whole.unwrap_err()
 }
@@ -202,10 +218,10 @@ fn refused(table: &mut Table, animal: u64, issued: u64, now: u64, standing: bool
 fn a_late_list() {
     let mut memory = lent(slots(8), 4, items(1));
     let mut table = holding(&mut memory);
-    assert_eq!(refused(&mut table, 7, 99, 300, false), Refusal::Late);
+    assert_eq!(refused(&mut table, 7, 99, 300), Refusal::Late);
     assert_eq!(table.read(7, 720, 300), fresh(5, 520));
     // Not held, and no place: that is another refusal.
-    assert_eq!(refused(&mut table, 8, 99, 300, false), Refusal::NoPlace);
+    assert_eq!(refused(&mut table, 8, 99, 300), Refusal::NoPlace);
     // The same minute is stored, and so is a later one, by the cut form too.
     assert_eq!(table.set(7, 6, 100, 300), stored(0, 0));
     assert_eq!(table.items[..4], [7, 6, 100, 1]);
@@ -217,33 +233,126 @@ fn a_late_list() {
 fn issued_after_now() {
     let mut memory = lent(slots(8), 4, items(1));
     let mut table = holding(&mut memory);
-    for standing in [false, true] {
+    // Retired or not. No issue minute makes a stamp that is retired.
+    for stamp in [100, RETIRED_MARK] {
+        table.items[2] = stamp;
         for animal in [7, 8] {
-            assert_eq!(refused(&mut table, animal, 301, 300, standing), Refusal::BadTime);
-            assert_eq!(refused(&mut table, animal, 300, u64::MAX, standing), Refusal::BadTime);
+            assert_eq!(refused(&mut table, animal, 301, 300), Refusal::BadTime);
+            assert_eq!(refused(&mut table, animal, 300, NO_MINUTE), Refusal::BadTime);
+            assert_eq!(refused(&mut table, animal, RETIRED_MARK, u64::MAX - 1), Refusal::BadTime);
+            assert_eq!(refused(&mut table, animal, RETIRED_MARK, NO_MINUTE), Refusal::BadTime);
         }
     }
     assert_eq!(table.set(7, 6, 300, 300), stored(0, 0));
     // The minutes swapped.
-    assert_eq!(refused(&mut table, 7, 400, 310, false), Refusal::BadTime);
+    assert_eq!(refused(&mut table, 7, 400, 310), Refusal::BadTime);
+}
+
+// A cabinet from before 4.0.0: cow 4713, and two bulls who are retired. 901 was here lately, 900 was not.
+fn cabinet() -> Memory {
+    Memory {
+        slots: vec![0, 14155778, 0, 0, 11862017, 0, 0, 0, 2818048, 0, 0, 0, 0, 0, 0, 0],
+        counters: vec![8, 2],
+        items: vec![4713, 2, 100, 1, 901, 2, RETIRED_MARK, 1, 900, 2, RETIRED_MARK, 0, 0, 0, 0, 0],
+    }
 }
 
 #[test]
-fn standing_is_never_late() {
-    let mut memory = lent(slots(8), 4, items(1));
-    let mut table = holding(&mut memory);
-    assert_eq!(table.set_standing(7, 6, 50, 300), stored(0, 0));
-    assert_eq!(table.items[..4], [7, 6, STANDING, 1]);
-    // Nor is a late list over a standing permission.
-    assert_eq!(table.set(7, 5, 50, 300), stored(0, 0));
-    assert_eq!(table.items[..4], [7, 5, 50, 1]);
+fn retired_opens_no_gate() {
+    let mut memory = cabinet();
+    let mut table = memory.table();
+    let before = words(&table);
+    for animal in [900, 901] {
+        for limit in [0, 1, 720, LARGEST_LIMIT] {
+            for now in [0, 1, 99, 100, 130, 820, 10180, 1 << 62, 1 << 63, u64::MAX - 1] {
+                assert_eq!(table.read(animal, limit, now), RETIRED);
+                assert_eq!(plainly(&table, animal, limit, now), RETIRED);
+                let said = table.serve(animal, limit, now);
+                assert_eq!((said, lane(said)), (RETIRED, Lane::Holding));
+            }
+            assert_eq!(table.read(animal, limit, NO_MINUTE), Err(Refusal::BadTime));
+            assert_eq!(plainly(&table, animal, limit, NO_MINUTE), Err(Refusal::BadTime));
+            let said = table.serve(animal, limit, NO_MINUTE);
+            assert_eq!((said, lane(said)), (Err(Refusal::BadTime), Lane::Holding));
+        }
+        assert_eq!(table.read(animal, LARGEST_LIMIT + 1, 130), Err(Refusal::BadTime));
+    }
+    // Serve has changed no word, for a recent one neither. The cow's answer is as ever.
+    assert_eq!(words(&table), before);
+    assert_eq!(table.serve(4713, 720, 130), fresh(2, 690));
+    assert_eq!((table.find(901), table.find(900)), (Ok(Some(1)), Ok(Some(2))));
+    agree(&table, &[4713, 900, 901]);
+
+    // Sound, and listed as it is stored.
+    assert_eq!(judged(&table), None);
+    let mut buffer = [0; list_bytes(3)];
+    let told: Vec<_> = table.list(&mut buffer).unwrap().map(|r| (r.animal, r.permission, r.stamp)).collect();
+    assert_eq!(told, [(4713, 2, 100), (901, 2, RETIRED_MARK), (900, 2, RETIRED_MARK)]);
+    assert_eq!(buffer[32..40], [0xff; 8]);
+    // The hand passes 901, who was here lately, and takes 900. Served, 901 is still not recent: he is next.
+    assert_eq!(table.evict(1), Ok(Evicted { victim: 900, looked: 2, hand: 3 }));
+    assert_eq!(table.serve(901, 720, 130), RETIRED);
+    assert_eq!(table.evict(3), Ok(Evicted { victim: 901, looked: 3, hand: 2 }));
+}
+
+#[test]
+fn retired_is_replaced() {
+    for issued in [0, 1, 60, 1 << 32, u64::MAX - 1] {
+        for now in [issued, u64::MAX - 1] {
+            let mut memory = cabinet();
+            let mut table = memory.table();
+            let mut then = words(&table);
+            assert_eq!(table.set(900, 6, issued, now), stored(0, 0));
+            // His three words and his counter, and nothing else.
+            then.1[0] += 2;
+            then.2[8..12].copy_from_slice(&[900, 6, issued, 1]);
+            assert_eq!(words(&table), then);
+            assert_eq!(table.serve(900, 720, issued), fresh(6, 720));
+            assert_eq!(table.read(901, 720, issued), RETIRED);
+            assert_eq!(judged(&table), None);
+            // From here on he is judged as any other.
+            if issued > 0 {
+                assert_eq!(table.read(900, 720, issued - 1), Ok(Reading::Ahead));
+                assert_eq!(refused(&mut table, 900, issued - 1, now), Refusal::Late);
+            }
+            assert_eq!(table.set(900, 2, issued, now), stored(0, 0));
+        }
+    }
+    // The largest minute is no mark: every other list is late for it.
+    let mut memory = cabinet();
+    let mut table = memory.table();
+    table.items[10] = u64::MAX - 1;
+    assert_eq!(refused(&mut table, 900, 131, 131), Refusal::Late);
+    table.items[10] = RETIRED_MARK;
+    // Other refusals come first.
+    table.counters[0] += 1;
+    assert_eq!(refused(&mut table, 900, 60, 131), Refusal::Busy);
+    assert_eq!(plainly(&table, 900, 720, 131), RETIRED);
+    table.counters[0] -= 1;
+    table.slots[2] = 7;
+    assert_eq!(refused(&mut table, 900, 60, 131), Refusal::Damaged);
+    table.slots[2] = 0;
+    // Five stores: counter, permission, stamp, recent, counter. Before the third it is retired still.
+    for k in 0..=6 {
+        let mut memory = cabinet();
+        let mut table = memory.table();
+        assert_eq!(table.set_cut(900, 6, 60, 131, k), stored(0, 0));
+        let now = if k < 3 { RETIRED } else { fresh(6, 649) };
+        assert_eq!(plainly(&table, 900, 720, 131), now);
+        assert_eq!(table.read(900, 720, 131), if (1..=4).contains(&k) { Err(Refusal::Busy) } else { now });
+    }
+    // A delete takes it away as any other.
+    assert_eq!(table.delete(900), Ok(()));
+    assert_eq!(table.items[8..12], [0; 4]);
+    assert_eq!(table.set(900, 6, 60, 131), stored(1, 0));
+    assert_eq!(table.read(900, 720, 131), fresh(6, 649));
 }
 
 #[test]
 fn late_and_nothing_held() {
     let mut memory = lent(slots(8), 4, items(1));
     let mut table = holding(&mut memory);
-    assert_eq!(refused(&mut table, 7, 90, 300, false), Refusal::Late);
+    assert_eq!(refused(&mut table, 7, 90, 300), Refusal::Late);
     table.delete(7).unwrap();
     assert_eq!(table.set(7, 1, 90, 300), stored(1, 0));
     assert_eq!(table.read(7, 720, 300), fresh(1, 510));
@@ -259,7 +368,7 @@ fn a_clock_that_ran_ahead() {
     assert_eq!(table.set(7, 1, 5000, 5000), stored(0, 0));
     // Put right, it makes every true list late, until she is deleted.
     assert_eq!(table.read(7, 720, 900), Ok(Reading::Ahead));
-    assert_eq!(refused(&mut table, 7, 900, 900, false), Refusal::Late);
+    assert_eq!(refused(&mut table, 7, 900, 900), Refusal::Late);
     assert_eq!(table.read(7, 720, 5000), fresh(1, 720));
     table.delete(7).unwrap();
     assert_eq!(table.set(7, 1, 900, 900), stored(1, 0));
@@ -347,15 +456,17 @@ fn the_power_goes() {
             }
             _ => assert_eq!(said, fresh(5, 710)),
         }
-        // Only fresh helps.
-        table.fresh().unwrap();
-        assert_eq!(table.set_standing_cut(7, 5, 90, 100, 7), stored(1, 0));
-        // Seven stores of a delete.
-        assert_eq!(table.delete_cut(7, k), Ok(()));
-        match (k, table.read(7, 720, 100)) {
-            (0, said) => assert_eq!(said, fresh(5, 720)),
-            (1..=6, said) => assert_eq!(said, Err(Refusal::Busy)),
-            (_, said) => assert_eq!(said, Ok(Reading::Absent)),
+        // Only fresh helps. Seven stores of a delete, of one that is retired too.
+        for (stamp, whole) in [(90, fresh(5, 710)), (RETIRED_MARK, RETIRED)] {
+            table.fresh().unwrap();
+            assert_eq!(table.set_cut(7, 5, 90, 100, ALL_STORES), stored(1, 0));
+            table.items[2] = stamp;
+            assert_eq!(table.delete_cut(7, k), Ok(()));
+            match (k, table.read(7, 720, 100)) {
+                (0, said) => assert_eq!(said, whole),
+                (1..=6, said) => assert_eq!(said, Err(Refusal::Busy)),
+                (_, said) => assert_eq!(said, Ok(Reading::Absent)),
+            }
         }
     }
 }
@@ -397,19 +508,21 @@ fn agree(table: &Table, animals: &[u64]) {
 fn plain_read_over_a_day() {
     let mut memory = lent(32, 4, items(5));
     let mut table = memory.table();
-    let day: [fn(&mut Table) -> bool; 15] = [
+    let day: [fn(&mut Table) -> bool; 17] = [
         |t| t.fresh().is_ok(),
         |t| t.set(4711, 1, 100, 100).is_ok(),
         |t| t.set(4712, 0, 100, 100).is_ok(),
         |t| t.set(4713, u32::MAX, 100, 100).is_ok(),
         |t| t.serve(4711, 720, 820) == fresh(1, 0),
-        |t| t.set_standing(900, 2, 840, 840).is_ok(),
+        |t| t.set(900, 2, 60, 840).is_ok(),
+        |t| std::mem::replace(&mut t.items[14], RETIRED_MARK) == 60, // as a table from before 4.0.0 has him
         |t| t.set(4711, 3, 890, 900).is_ok(),
         |t| t.set(4711, 1, 100, 902) == Err(Refusal::Late),
         |t| t.delete(4711).is_ok(), // place 0 is vacant now
         |t| t.delete(4711) == Err(Refusal::Nobody),
         |t| t.set(4714, 1, 890, 902).is_ok(),
         |t| t.set(4715, 1, 902, 902).is_ok(),
+        |t| t.set(900, 2, 60, 902) == stored(0, 0),
         |t| t.set(4716, 1, 902, 902) == Err(Refusal::NoPlace),
         |t| t.evict(1).is_ok(),
         |t| t.set(4716, 1, 902, 902).is_ok(),
@@ -452,9 +565,10 @@ fn plain_read_judges() {
         table.items[9] = word;
         assert_eq!(plainly(&table, 7, 720, 820), fresh(permission, 0));
     }
-    table.items[10] = STANDING;
-    assert_eq!(plainly(&table, 7, 0, 0), fresh(u32::MAX, 0));
-    assert_eq!(plainly(&table, 7, 720, u64::MAX - 1), fresh(u32::MAX, 720));
+    table.items[10] = RETIRED_MARK;
+    assert_eq!(plainly(&table, 7, 0, 0), RETIRED);
+    assert_eq!(plainly(&table, 7, LARGEST_LIMIT, 100), RETIRED);
+    assert_eq!(plainly(&table, 7, 720, u64::MAX - 1), RETIRED);
 
     // Twins: the first place decides, whatever the other one is.
     table.items.copy_from_slice(&[8, 1, 50, 1, 7, 6, 100, 1, 7, 5, 110, 1]);
@@ -462,6 +576,10 @@ fn plain_read_judges() {
     assert_eq!(plainly(&table, 7, 720, 821), Ok(Reading::Old { left: -1 }));
     table.items[6] = 900;
     assert_eq!(plainly(&table, 7, 720, 820), Ok(Reading::Ahead));
+    table.items[6] = RETIRED_MARK;
+    assert_eq!(plainly(&table, 7, 720, 820), RETIRED);
+    table.items.copy_from_slice(&[8, 1, 50, 1, 7, 6, 100, 1, 7, 5, RETIRED_MARK, 1]);
+    assert_eq!(plainly(&table, 7, 720, 820), fresh(6, 0));
 }
 
 #[test]
@@ -552,19 +670,21 @@ fn herd(memory: &mut Memory) -> Table<'_> {
 fn judge_over_a_day() {
     let mut memory = lent(32, 4, items(5));
     let mut table = memory.table();
-    let day: [fn(&mut Table) -> bool; 15] = [
+    let day: [fn(&mut Table) -> bool; 17] = [
         |t| t.fresh().is_ok(),
         |t| t.set(4711, 1, 100, 100).is_ok(),
         |t| t.set(4712, 0, 100, 100).is_ok(),
         |t| t.set(4713, u32::MAX, 100, 100).is_ok(),
         |t| t.serve(4711, 720, 820) == fresh(1, 0),
-        |t| t.set_standing(900, 2, 840, 840).is_ok(),
+        |t| t.set(900, 2, 60, 840).is_ok(),
+        |t| std::mem::replace(&mut t.items[14], RETIRED_MARK) == 60, // as a table from before 4.0.0 has him
         |t| t.set(4711, 3, 890, 900).is_ok(),
         |t| t.set(4711, 1, 100, 902) == Err(Refusal::Late),
         |t| t.delete(4711).is_ok(), // place 0 is vacant now
         |t| t.delete(4711) == Err(Refusal::Nobody),
         |t| t.set(4714, 1, 890, 902).is_ok(),
         |t| t.set(4715, 1, 902, 902).is_ok(),
+        |t| t.set(900, 2, 60, 902) == stored(0, 0),
         |t| t.set(4716, 1, 902, 902) == Err(Refusal::NoPlace),
         |t| t.evict(1).is_ok(),
         |t| t.set(4716, 1, 902, 902).is_ok(),
@@ -671,7 +791,7 @@ fn judge_conditions() {
     for place in 0..5 {
         let wide = [(2, 4 * place + 1, 1 << 32), (2, 4 + 2, 5)];
         assert_eq!(broken(&wide), Some((Condition::WidePermission, place)));
-        for (part, word) in [(1, u64::from(u32::MAX)), (2, 1), (2, STANDING), (3, 1), (3, u64::MAX)] {
+        for (part, word) in [(1, u64::from(u32::MAX)), (2, 1), (2, RETIRED_MARK), (3, 1), (3, u64::MAX)] {
             let vacant = place == 1 || place == 4;
             let said = if vacant { Some((Condition::VacantNotZero, place)) } else { None };
             assert_eq!(broken(&[(2, 4 * place + part, word)]), said);
@@ -704,11 +824,16 @@ fn judge_conditions() {
 
 #[test]
 fn judge_of_a_cut_call() {
-    let calls: [(u64, fn(&mut Table, u64) -> bool); 5] = [
+    // Who is retired is cut as any other.
+    fn retire(table: &mut Table) -> bool {
+        std::mem::replace(&mut table.items[2], RETIRED_MARK) == 100
+    }
+    let calls: [(u64, fn(&mut Table, u64) -> bool); 6] = [
         (7, |t, k| t.set_cut(15, 5, 90, 100, k).is_ok()),
-        (7, |t, k| t.set_standing_cut(15, 5, 90, 100, k).is_ok()),
         (5, |t, k| t.set_cut(11, 5, 100, 100, k).is_ok()),
+        (5, |t, k| retire(t) && t.set_cut(11, 5, 90, 100, k).is_ok()),
         (7, |t, k| t.delete_cut(11, k).is_ok()),
+        (7, |t, k| retire(t) && t.delete_cut(11, k).is_ok()),
         // Three marks are taken first, and that leaves it sound.
         (7, |t, k| t.evict_cut(0, k + 3).is_ok()),
     ];
@@ -735,17 +860,19 @@ fn judge_of_another_workshop() {
     let mut memory = Memory {
         slots: vec![0, 0, fourteen, 0, 0, eleven + 4, 0, thirteen + 1],
         counters: vec![40, u32::MAX - 1, 6],
-        items: vec![14, 1, 100, 7, 13, 1, STANDING, 0, 0, 0, 0, 0, 0, 0, 0, 0, 11, 1, 100, u64::MAX],
+        items: vec![14, 1, 100, 7, 13, 1, RETIRED_MARK, 0, 0, 0, 0, 0, 0, 0, 0, 0, 11, 1, 100, u64::MAX],
     };
     let mut table = memory.table();
     assert_eq!(judged(&table), None);
-    let day: [fn(&mut Table) -> bool; 6] = [
+    let day: [fn(&mut Table) -> bool; 8] = [
         |t| t.read(11, 720, 820) == fresh(1, 0),
-        |t| t.serve(13, 720, 820) == fresh(1, 720),
+        |t| t.serve(13, 720, 820) == RETIRED && t.items[7] == 0,
+        |t| t.set(13, 1, 50, 820) == stored(0, 0),
+        |t| t.serve(13, 720, 770) == fresh(1, 0),
         |t| t.delete(14).is_ok(),
         |t| t.set(15, 2, 200, 200).is_ok(),
         |t| t.set(11, 3, 200, 200) == stored(0, 0),
-        |t| t.evict(0).is_ok(),
+        |t| t.evict(0) == Ok(Evicted { victim: 15, looked: 6, hand: 1 }),
     ];
     for step in day {
         assert!(step(&mut table));

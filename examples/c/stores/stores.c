@@ -38,9 +38,8 @@ static void make(const char *op, const uint64_t *n) {
     else if (!strcmp(op, "plain_read")) MARKED(r = boughladder_plain_read(items, i, n[0], n[1], n[2]));
     else if (!strcmp(op, "serve")) MARKED(r = boughladder_serve(LENT, n[0], n[1], n[2]));
     else if (!strcmp(op, "find")) MARKED(f = boughladder_find(LENT, n[0]));
-    else if (!strcmp(op, "set")) MARKED(t = boughladder_set(LENT, n[0], (uint32_t)n[1], n[2], n[3], (uint32_t)n[4]));
-    else if (!strcmp(op, "set_cut"))
-        MARKED(t = boughladder_set_cut(LENT, n[0], (uint32_t)n[1], n[2], n[3], (uint32_t)n[4], n[5]));
+    else if (!strcmp(op, "set")) MARKED(t = boughladder_set(LENT, n[0], (uint32_t)n[1], n[2], n[3]));
+    else if (!strcmp(op, "set_cut")) MARKED(t = boughladder_set_cut(LENT, n[0], (uint32_t)n[1], n[2], n[3], n[4]));
     else if (!strcmp(op, "delete")) MARKED(d = boughladder_delete(LENT, n[0]));
     else if (!strcmp(op, "delete_cut")) MARKED(d = boughladder_delete_cut(LENT, n[0], n[1]));
     else if (!strcmp(op, "evict")) MARKED(e = boughladder_evict(LENT, n[0]));
@@ -60,7 +59,7 @@ static void make(const char *op, const uint64_t *n) {
 static int numbers(const char *line, uint64_t *n) {
     int count = 0;
     char *end;
-    for (; count < 6; count++, line = end) {
+    for (; count < 5; count++, line = end) {
         n[count] = strtoull(line, &end, 10);
         if (end == line) break;
     }
@@ -82,7 +81,7 @@ static void cuts(const char *op, uint64_t stores, uint64_t *n, int count) {
 }
 
 int main(int words, char **word) {
-    uint64_t n[8], stack = (uint64_t)(uintptr_t)&n;
+    uint64_t n[6], stack = (uint64_t)(uintptr_t)&n;
     char line[256], op[32];
     int at;
     FILE *file = words == 2 ? fopen(word[1], "r") : NULL;

@@ -12,7 +12,7 @@ import random
 import struct
 import sys
 
-TOP = 2**64 - 1                                               # the standing mark
+TOP = 2**64 - 1                                               # no minute; as a stamp: retired
 WIDTH = {'slots': 4, 'counters': 4, 'items': 8, 'buffer': 1}  # bytes of a word
 RUNS = ['slots', 'counters', 'items']
 ROOM = {'slots': 64, 'counters': 8, 'items': 256, 'buffer': 64}
@@ -111,11 +111,9 @@ def check_asked(animal, limit, now):
 
 def judged(t, place, limit, now):
     permission, stamp = t.item(place, 1) % 2**32, t.item(place, 2)
-    if stamp == TOP:
-        return 0, 1, permission, limit
-    if stamp > now:
+    if now < stamp < TOP:
         return 0, 3, 0, 0
-    left = max(limit - (now - stamp), -2**62)
+    left = -2**62 if stamp == TOP else max(limit - (now - stamp), -2**62)
     return (0, 1, permission, left) if left >= 0 else (0, 2, 0, left % 2**64)  # the bits that stores.c writes
 
 
@@ -174,7 +172,7 @@ def move(t, source, destination):
     t.count(counter)
 
 
-def set_(t, animal, permission, issued, now, standing):
+def set_(t, animal, permission, issued, now):
     if animal == 0:
         raise Refusal(2)
     if now == TOP or issued > now:
@@ -182,10 +180,10 @@ def set_(t, animal, permission, issued, now, standing):
     slot = hit(t, animal)
     tag, first, _ = homes(t, animal)
     counter = counter_of(t, first, tag)
-    parts = [animal, permission, TOP if standing else issued, 1]
+    parts = [animal, permission, issued, 1]
     if slot is not None:
         place = t.word['slots'][slot] % 65536
-        if not standing and issued < t.item(place, 2) != TOP:
+        if issued < t.item(place, 2) < TOP:
             raise Refusal(11)
         t.count(counter)
         for n in (1, 2, 3):
@@ -407,7 +405,7 @@ def faults(seen, table, op, answer):
 
 def compare(scenarios, memory, trace):
     seen, table, wrong, report = Watched(memory, trace), None, 0, {}
-    refusals, moves, made, conditions = set(), set(), set(), set()
+    refusals, moves, made, conditions, retired = set(), set(), set(), set(), set()
     for name, op, numbers, cuts in steps(scenarios):
         if op == 'lend':
             table = Table(numbers)
@@ -416,6 +414,7 @@ def compare(scenarios, memory, trace):
         else:
             # Each of the cuts has the memory that stood before.
             after = table if cuts is None else copy.deepcopy(table)
+            marked = [table.item(p, 0) for p in range(table.places) if table.item(p, 2) == TOP]
             answer, stores = call(after, op, numbers)
             said, joined = faults(seen, after, op, answer)
             if cuts not in (None, stores):
@@ -427,6 +426,8 @@ def compare(scenarios, memory, trace):
             line[0], line[1], line[2] = line[0] + 1, line[1] + len(after.stores), line[2] + joined
             refusals.add(answer[0])
             made.add((op, answer[0] == 0))
+            if answer[0] == 0 and (answer[1] if op in ('evict', 'evict_cut') else (numbers + [0])[0]) in marked:
+                retired.add(op)
             if op in ('set', 'set_cut') and answer[1] > 0:
                 moves.add((op, answer[2]))
             if op == 'judge':
@@ -437,9 +438,10 @@ def compare(scenarios, memory, trace):
         wrong += 1
         print('the program made more calls than the scenarios have')
     # The scenarios reach every number of moves, every refusal but 10 and every condition; each writing call is made and
-    # refused.
+    # refused; each call of an animal is made where she is retired.
     writing = ['fresh', 'serve', 'set', 'set_cut', 'delete', 'delete_cut', 'evict', 'evict_cut']
     missed = {(op, success) for op in writing for success in (True, False)} - made
+    missed |= {(op, 'retired') for op in writing[1:] + ['read', 'plain_read', 'find'] if op not in retired}
     if len(moves) != 2 * 5 or refusals != {*range(10), 11} or conditions != {*range(9)} or missed:
         wrong += 1
         print('the scenarios reach only moves %s, refusals %s, conditions %s, and not %s' %
@@ -459,7 +461,7 @@ def herd_needs(shape, herd):
     table = Table(shape)
     call(table, 'fresh', [])
     for animal in herd:
-        answer, _ = call(table, 'set', [animal, 1, 100, 100, 0])
+        answer, _ = call(table, 'set', [animal, 1, 100, 100])
         if answer[0]:
             return None
     return answer[2]
@@ -485,8 +487,8 @@ def look_for_herd(buckets, counters, moves, seed):
     print('scenario set of an absent animal, N = %d, moves: %d' % (buckets, moves))
     print('lend %d %d %d\nfresh' % (shape[0], counters, 4 * (len(herd) + 1)))
     for animal in herd[:-1]:
-        print('set %d 1 100 100 0' % animal)
-    print('cuts %d set_cut %d 7 150 200 0\nset %d 7 150 200 0' % (7 + 4 * moves, herd[-1], herd[-1]))
+        print('set %d 1 100 100' % animal)
+    print('cuts %d set_cut %d 7 150 200\nset %d 7 150 200' % (7 + 4 * moves, herd[-1], herd[-1]))
 
 
 if __name__ == '__main__':
