@@ -67,13 +67,13 @@
 #include <stdint.h>
 
 /* This header's version, as text and as numbers. The archive has none to ask for: ship both from one release.
-   A caller of 3.x that calls boughladder_set or its cut form does not compile: the argument standing is gone, and so are
-   boughladder_table_set_standing, its cut form and BOUGHLADDER_STANDING. Any other needs no change.
-   A caller of 2.x that reads the age does not compile: left is the limit minus the age. Any other needs no change.
-   Don't only rename it: left <= limit is true of absent, ahead and refused, and with a signed limit of old as well.
-   Test kind, or ask boughladder_lane.
-   A caller of 1.0.0 over a table does not compile: each set takes one minute more. One over the runs does compile: its
-   minute and standing, 0 or 1, are taken for issued and now, and that is refusal 3.
+   A caller of 3.x that sets over the runs does not compile: set and its cut form lose the argument standing. One over a
+   table compiles unless it sets standing permissions: those two calls are gone, and so is BOUGHLADDER_STANDING.
+   A caller of 2.x that reads the age does not compile either: left is the limit minus the age. Don't only rename it:
+   left <= limit is true of absent, ahead and refused, and with a signed limit of old as well. Test kind, or ask
+   boughladder_lane.
+   A caller of 1.0.0 over a table does not compile: each set takes one minute more. One over the runs does: its minute
+   and its standing, 0 or 1, are taken for issued and now. That is refusal 3, but for minutes 0 and 1.
    Compile and link everything again. What is mixed does link (only judge is missing before 3.1.0, plain read before
    2.1.0):
      - what was compiled with 2.0.0 to 3.1.0 and sets a standing permission stores one with its minute of issue. Its cut
