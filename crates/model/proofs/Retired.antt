@@ -25,7 +25,7 @@ use Rattle.model.specs.Stores.{stores, wholes}
 use Rattle.model.specs.AnyTable.{Table, Write, beside, leaves}
 use Rattle.model.specs.Row.{Row, Turn, fill, note, passed, row-bad-grant, row-bad-time, row-clock, row-count, row-delete, row-event, row-evict, row-late, row-new, row-read, row-serve, row-set, stay, walk-to}
 use Rattle.model.specs.Demands.{places}
-use Rattle.model.specs.Retired.{NoneRetired, RetiredAt, RetiredReads, RetiredReplaced, RetiredThenDated, RetiredUnserved}
+use Rattle.model.specs.Retired.{MinuteFits, NoneRetired, RetiredAt, RetiredReads, RetiredReplaced, RetiredThenDated, RetiredUnserved}
 use Rattle.model.specs.declared.Grant.{Grant}
 use Rattle.model.proofs.ListLaws.{bool, zeros}
 use Rattle.model.proofs.Verdict.{says-retired}
@@ -167,13 +167,13 @@ module _ (M told : ℕ) (l : List ℕ) (d : Dated l) where
   evict-fine (some w) t = cleared (w .words) (w .victim) t
 
   -- a minute of issue that 3 lets pass is not the mark
-  issue-dated : (g : Grant) → g .minute < 2 ^ 64 → row-bad-grant M g ≡ false → g .issued ≢ retired-mark
+  issue-dated : (g : Grant) → MinuteFits g → row-bad-grant M g ≡ false → g .issued ≢ retired-mark
   issue-dated g h b e = let q = minutes-good g (grant-is M g ∙ b) in q .0 (omega (arith, q .1))
 
   asked-fine : (x : ℕ) (bad : Bool) (r : Row) → (bad ≡ false → Fine r) → Fine (choose (eqb x 0) (stay l (refused 2)) (choose bad (stay l (refused 3)) r))
   asked-fine x bad r h = fine (eqb x 0) 2 _ λ _. fine bad 3 r h
 
-  event-fine : (e : Event) → ((g : Grant) → did (set-animal g) ≡ e → g .minute < 2 ^ 64) → Fine (row-event M told l e)
+  event-fine : (e : Event) → ((g : Grant) → did (set-animal g) ≡ e → MinuteFits g) → Fine (row-event M told l e)
   event-fine make-fresh h = λ p. rw (zeros (4 * M) (4 * p + 2)) (λ q. absurd (omega arith))
   event-fine (did (read x limit now)) h = asked-fine x (row-bad-time M limit now) _ λ _. d
   event-fine (did (serve x limit now)) h = asked-fine x (row-bad-time M limit now) _ λ _. serve-fine limit now (walk-to l x M 0)
@@ -186,7 +186,7 @@ module _ (M told : ℕ) (l : List ℕ) (d : Dated l) where
   event-fine (did (write-list size)) h = d
 
 -- a run of calls keeps the row dated
-run-dated : (T : Table) (M : ℕ) (m : Mem) (l : List ℕ) (es : List Event) → ((g : Grant) → In (did (set-animal g)) es → g .minute < 2 ^ 64)
+run-dated : (T : Table) (M : ℕ) (m : Mem) (l : List ℕ) (es : List Event) → ((g : Grant) → In (did (set-animal g)) es → MinuteFits g)
     → Dated l → Dated (beside T M m l es)
 run-dated T M m l [] h d = d
 run-dated T M m l (e ∷ es) h d =

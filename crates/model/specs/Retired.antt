@@ -18,6 +18,10 @@ use Rattle.model.specs.AnyTable.{Table, leaves}
 use Rattle.model.specs.Demands.{GoodInputs, Story, reads, table}
 use Rattle.model.specs.declared.Grant.{Grant}
 
+-- a minute that a caller can pass
+abbrev pub MinuteFits : Grant → Type 0
+MinuteFits g = g .minute < 2 ^ 64
+
 module _ (W : Ways) where
   -- place p holds animal x with the mark, and 1, 2, 8 and 4 are not due
   pub record RetiredAt (m : Mem) (x p : ℕ) : Type 0 where
@@ -51,7 +55,7 @@ module _ (W : Ways) where
         → (limit now : ℕ) → limit ≤ 10080 → now ≢ no-minute
         → reads W T (leaves T m (did (set-animal g))) (g .animal) limit now ≡ row-says limit now (g .permission) (g .issued)
 
-    -- from fresh on no place gets the mark, whatever minutes fit a word
+    -- from fresh on no place gets the mark, as long as the minutes fit their word
     abbrev pub NoneRetired : Type 0
-    NoneRetired = (s : Story W) → ((g : Grant) → In (did (set-animal g)) (s .calls) → g .minute < 2 ^ 64)
+    NoneRetired = (s : Story W) → ((g : Grant) → In (did (set-animal g)) (s .calls) → MinuteFits g)
         → (p : ℕ) → stamp (table W T s .items) p ≢ retired-mark
