@@ -1,5 +1,5 @@
 -- Demand 1 for our table, on any memory: a refusal is from the list and makes no store. Assumes nothing.
-use Prim.Native.Nat.{ℕ, _*_, _^_, _-_, _%_, _<_}
+use Prim.Native.Nat.{ℕ, _*_, _-_, _<_}
 use native.Mathlib.Omega.{arith}
 use mathlib.Core.Path.{_≡_, refl, ap, _∙_, subst}
 use mathlib.Core.Bool.{Bool, true, false}
@@ -12,8 +12,8 @@ use Rattle.model.specs.Choice.{choose, range, first, one-of, any, there}
 use Rattle.model.specs.Memory.{Mem, animal, permission, stamp}
 use Rattle.model.specs.Shape.{Shape, right-lengths, shape-of, Ways}
 use Rattle.model.specs.Stores.{stores}
-use Rattle.model.specs.Answers.{Answer, absent, ahead, at-place, fresh, Listed, refusal-numbers, paper, listed, old, refused, started}
-use Rattle.model.specs.Age.{bad-time, is-fresh, judge, late, verdict, bad-grant}
+use Rattle.model.specs.Answers.{Answer, absent, at-place, Listed, refusal-numbers, paper, listed, refused, started}
+use Rattle.model.specs.Age.{bad-time, judge, late, bad-grant}
 use Rattle.model.specs.Clock.{Victim, victim}
 use Rattle.model.specs.Listing.{listing, live-count}
 use Rattle.model.specs.Calls.{Outcome, asked, busy, call, delete-at, enter-at, evict-at, evict-slot, find-at, held, hit, home-damage, refuse}

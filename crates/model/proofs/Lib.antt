@@ -48,5 +48,6 @@ pub mod FreshAnywhere
 pub mod FreshIffLeft
 pub mod FromIssue
 pub mod Retired
+pub mod NoneRetired
 pub mod Linked
 pub mod Theorems

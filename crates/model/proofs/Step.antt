@@ -1,6 +1,6 @@
 -- One call on a well-formed table: its blocks have their conditions, its answer and its item words are the row's. Read, serve, find,
 -- delete and the list. Assumes nothing.
-use Prim.Native.Nat.{ℕ, _*_, _^_, _-_, _%_}
+use Prim.Native.Nat.{ℕ, _*_, _-_}
 use mathlib.Core.Path.{_≡_, refl, sym, ap, _∙_, subst, ap₂}
 use mathlib.Core.Logic.{_≢_}
 use mathlib.Core.Bool.{Bool, true, false}
@@ -12,7 +12,7 @@ use Rattle.model.specs.Choice.{choose, range}
 use Rattle.model.specs.Memory.{Mem, animal, permission, place, stamp, tag, word}
 use Rattle.model.specs.Shape.{Shape, counter-of, homes}
 use Rattle.model.specs.Stores.{recency, remove, wholes}
-use Rattle.model.specs.Answers.{Answer, absent, ahead, at-place, fresh, listed, old, refused}
+use Rattle.model.specs.Answers.{Answer, absent, at-place, listed, refused}
 use Rattle.model.specs.Age.{is-fresh, judge, verdict}
 use Rattle.model.specs.Listing.{listing, live-count, records}
 use Rattle.model.specs.Calls.{Outcome, asked, delete-at, find-at, held, hits, place-at, serve-at, tell}

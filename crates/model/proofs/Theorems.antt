@@ -11,6 +11,7 @@ use Rattle.model.proofs.Left as left
 use Rattle.model.proofs.Verdict as verdict
 use Rattle.model.proofs.FreshIffLeft as iff
 use Rattle.model.proofs.Retired as retired
+use Rattle.model.proofs.NoneRetired as dated
 use Rattle.model.proofs.Linked as linked
 use Rattle.model.proofs.Paper as paper
 use Rattle.model.proofs.AsWritten as written
@@ -41,7 +42,7 @@ owed =
       retired-unserved = retired.retired-unserved;
       retired-replaced = retired.retired-replaced;
       retired-then-dated = retired.retired-then-dated;
-      none-retired = retired.none-retired;
+      none-retired = dated.none-retired;
       leaves-lent = linked.leaves-lent four;
       cuts-lent = linked.cuts-lent four;
       fresh-lent = linked.fresh-lent four;

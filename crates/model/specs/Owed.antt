@@ -15,7 +15,7 @@ use Rattle.model.specs.Late.{LateRefused, StampsRise}
 use Rattle.model.specs.Left.{AheadTellsNothing, FreshIffLeft, HeldTells, LeftIs, LeftLeast}
 use Rattle.model.specs.Retired.{NoneRetired, RetiredReads, RetiredReplaced, RetiredThenDated, RetiredUnserved}
 use Rattle.model.specs.WellFormed.{WellFormed}
-use Rattle.model.specs.AnyTable.{cut-at, leaves}
+use Rattle.model.specs.AnyTable.{Table, cut-at, leaves}
 use Rattle.model.specs.Demands.{AgeFromIssue, Demand1, Demand2, Demand3, FreshAnywhere, NeverLost, Story, shape-in, table}
 use Rattle.model.specs.Ours.{gate, ours}
 use Rattle.model.specs.declared.Grant.{Grant}
@@ -45,12 +45,12 @@ pub record Owed : Type 0 where
   pub held-tells : HeldTells
   pub ahead-tells-nothing : AheadTellsNothing
   pub fresh-iff-left : (W : Ways) → FreshIffLeft (ours W)
-  -- wish 6: a retired entry reads as old, is not made recent and is replaced, on any memory; and from fresh on there is none
+  -- wish 6: a retired entry reads as old, is not made recent and is replaced, on any memory; and from fresh on a table that meets demand 2 has none
   pub retired-reads : (W : Ways) → RetiredReads W (ours W)
   pub retired-unserved : (W : Ways) → RetiredUnserved W (ours W)
   pub retired-replaced : (W : Ways) → RetiredReplaced W (ours W)
   pub retired-then-dated : (W : Ways) → RetiredThenDated W (ours W)
-  pub none-retired : (W : Ways) → NoneRetired W (ours W)
+  pub none-retired : (W : Ways) (T : Table) → Demand2 W T → NoneRetired W T
   -- what the code's contracts cite is what the demands speak of
   pub leaves-lent : (m : Mem) (c : Call) → leaves gate m (did c) ≡ lent-after four m c
   pub cuts-lent : (m : Mem) (c : Call) (k : ℕ) → cut-at gate k m (did c) ≡ lent-cut four k m c

@@ -55,7 +55,7 @@ module _ (W : Ways) where
         → (limit now : ℕ) → limit ≤ 10080 → now ≢ no-minute
         → reads W T (leaves T m (did (set-animal g))) (g .animal) limit now ≡ row-says limit now (g .permission) (g .issued)
 
-    -- from fresh on no place gets the mark, as long as the minutes fit their word
+    -- from fresh on no place has the mark, as long as the minutes fit their word
     abbrev pub NoneRetired : Type 0
     NoneRetired = (s : Story W) → ((g : Grant) → In (did (set-animal g)) (s .calls) → MinuteFits g)
         → (p : ℕ) → stamp (table W T s .items) p ≢ retired-mark

@@ -1,7 +1,6 @@
 -- The memories of the P examples are reached from fresh, and so is refusal 6. Assumes nothing.
 use Prim.Native.Nat.{ℕ}
 use mathlib.Core.Path.{_≡_, refl, ap, _∙_}
-use mathlib.Core.Bool.{false}
 use mathlib.Core.List.{List, [], _∷_}
 use Rattle.model.specs.Shape.{four}
 use Rattle.model.specs.Answers.{refused}
