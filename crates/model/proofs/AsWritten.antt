@@ -14,7 +14,8 @@ use Rattle.model.specs.Age.{is-fresh, left-of, verdict}
 use Rattle.model.specs.Clock.{next-hand, passed-recent, seek-victim}
 use Rattle.model.specs.Listing.{list-record, listing, live-count, records}
 use Rattle.model.specs.Calls.{hit, hits, slot-of, some-live, vacant-place}
-use Rattle.model.specs.Examples.{AllHold, answers, cuts, edges, examples, late-lists, left-rows, one-hurt, refusals, retired-rows, retired-words, row-edges, row-examples, row-numbers, seen-through, turns, two-tags}
+use Rattle.model.specs.Examples.{AllHold, answers, cuts, edges, examples, late-lists, left-rows, one-hurt, refusals, retired, retired-rows, retired-words, row-edges, row-examples, row-numbers, seen-through, turns, two-tags}
+use Rattle.model.specs.Retired.{RetiredAt}
 use Rattle.model.specs.Stores.{stores}
 use Rattle.model.specs.Row.{walk-to, row-left, row-says, row-clock, row-count, row-list, low-bytes}
 
@@ -37,6 +38,11 @@ all-hold = (
   (refl, (refl, (refl, (refl, (refl, (refl, (refl, (refl, (refl, (refl, (refl, tt))))))))))),
   (refl, (refl, (refl, (refl, tt)))),
 )
+
+-- the rows of wish 6 are of a memory that it speaks of
+pub retired-at : RetiredAt four retired 1 0
+unfolding hash fnv fnv-step bytes tag-from odd-up spread other-bucket tag place damaged range first good-lengths good-slots good-counters good-items hits hit
+retired-at = record { lengths = refl; real = λ e. absurd (omega arith); calm = refl; sound = refl; held-at = refl; marked = refl }
 
 -- N = 4: no entry of tag 2 goes from bucket 0 to bucket 2; and a table with an odd counter isn't well-formed
 pub not-legal : ¬ Legal (shape-of four two-tags .layout) (two-tags .slots) (record { from = 2; to = 8 })

@@ -49,6 +49,7 @@ owed =
       cut-whole = linked.cut-whole four;
       paper-injective = paper.paper-injective;
       all-hold = written.all-hold;
+      retired-at = written.retired-at;
       not-legal = written.not-legal;
       not-well = written.not-well;
       most-visits-are = written.most-visits-are;
