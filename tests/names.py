@@ -38,10 +38,15 @@ ALLOWED = {
     'docs/landings/00-workshop.md': {'lines_counted_by_two', 'no-row-told-as-understood'},
     'docs/landings/02-plain-engine.md': {'no-row-told-as-understood'},
     'docs/landings/05-judge-a-dump.md': {'lines_counted_by_two', 'no-row-told-as-understood'},
+    # what went in landing 06, told in the releases that had it and in the one that took it out
+    'CHANGELOG.md': {'boughladder_table_set_standing', 'boughladder_table_set_standing_cut'},
     # what was renamed or went in landing 04, and in landing 06 with the standing permissions
-    'docs/landings/01-age-from-issue.md': {'another-age-2', 'stamp-of', 'row-stamp', 'standing_ignored'},
+    'docs/landings/01-age-from-issue.md': {'another-age-2', 'stamp-of', 'row-stamp', 'standing_ignored', 'stamp_is_arrival',
+                                           'standing-issue-not-tested', 'late-over-standing', 'standing-set-late',
+                                           'late_over_standing', 'standing_set_late'},
     'docs/landings/04-time-left.md': {'age-told', 'another-age-2', 'refuted/proofs/Reached', 'standing_has_age_1',
-                                      'age_before_permission', 'age_wraps', 'time-left', 'standing-whole'},
+                                      'age_before_permission', 'age_wraps', 'time-left', 'standing-whole',
+                                      'row-standing-tells-0', 'standing_reads_ahead', 'standing_tells_0'},
 }
 
 
@@ -129,9 +134,9 @@ def links(line, document):
                 yield heading, 'no such heading'
 
 
-def header_names(line):
+def header_names(line, allowed):
     for name in re.findall(r'\b(?:boughladder_|Boughladder|BOUGHLADDER_)\w+', line):
-        if not re.search(r'\b%s' % name + ('' if name.endswith('_') else r'\b'), HEADER):
+        if name not in allowed and not re.search(r'\b%s' % name + ('' if name.endswith('_') else r'\b'), HEADER):
             yield name, 'not in the header'
 
 
@@ -180,11 +185,12 @@ def complaints(document):
         section = line if line.startswith('#') else section
         if section in PASSED_OVER.get(name, set()):
             continue
-        found = [*links(line, document), *header_names(line)]
+        allowed = ALLOWED.get(name, set())
+        found = [*links(line, document), *header_names(line, allowed)]
         if line.startswith('    '):
             found += paths_of_a_block(line, document)
         else:
-            found += [*names(line, document, ALLOWED.get(name, set())), *in_their_place(line)]
+            found += [*names(line, document, allowed), *in_their_place(line)]
         for what, why in found:
             yield number, what, why
     if name == 'docs/HOUSE.md':
