@@ -50,8 +50,8 @@
  *
  * Standing permissions are retired: no set makes one. A table from before 4.0.0 may hold some, with UINT64_MAX as their
  * stamp. Such an entry is old at every minute and under every limit, overdue by as much as is ever told, so it opens no
- * gate; serve leaves its recent word alone. No list is late for it: the next set of its animal replaces it. The list
- * writes it as it is stored, and judge takes it for sound.
+ * gate; serve leaves its recent word alone. No list is late for it: the next set of its animal that is not refused
+ * replaces it. The list writes it as it is stored, and judge takes it for sound.
  *
  * No call takes memory but the three runs and the stack: about 3.2 KB for set, at most 0.4 KB for any other, as
  * examples/c/stack.c measures it.
@@ -76,15 +76,16 @@
    and its standing, 0 or 1, are taken for issued and now. That is refusal 3, but for minutes 0 and 1.
    Compile and link everything again. What is mixed does link (only judge is missing before 3.1.0, plain read before
    2.1.0):
-     - what was compiled with 2.0.0 to 3.1.0 and sets a standing permission stores one with its minute of issue. Its cut
-       form of set takes standing for k;
+     - what was compiled with 2.0.0 to 3.1.0 sets every permission with its minute of issue, those it means to be
+       standing too. Its cut form of set takes standing for k: where that is 0 it answers as ever and makes no store;
      - this header with an archive of 2.0.0 to 3.1.0 passes no standing: what lies on the stack is taken for it, and
-       permissions may be fresh for ever;
-     - what was compiled with 2.x takes what is left for the age: in its last good minute a permission looks new;
-     - this header with an archive of 2.x takes the age for what is left: an old permission has minutes left;
-     - what was compiled with 1.0.0 passes a set's numbers one place off, and so does this header to the archive of
-       1.0.0, which takes now for standing: every permission is then fresh for ever.
-   Refusal, kind, permission and lane are right in the third and the fourth. */
+       permissions may be fresh for ever. In the cut form k is taken for standing, and what lies on the stack for k;
+     - what was compiled with 2.x also takes what is left for the age: in its last good minute a permission looks new;
+     - this header with an archive of 2.x also takes the age for what is left: an old permission has minutes left;
+     - what was compiled with 1.0.0 has its minute taken for issued and its standing for now: refusal 3, as above;
+     - this header with the archive of 1.0.0 has issued taken for now, and now for standing: every permission is then
+       fresh for ever.
+   Refusal, kind, permission and lane of a reading are right in the first and the third. */
 #define BOUGHLADDER_VERSION "4.0.0"
 #define BOUGHLADDER_VERSION_MAJOR 4
 #define BOUGHLADDER_VERSION_MINOR 0

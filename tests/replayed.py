@@ -422,7 +422,7 @@ def samples():
 
 
 def every_turn():
-    """Each call asks at every turn of the answer, and a minute before and after it. The last animal is standing."""
+    """Each call asks at every turn of the answer, and a minute before and after it. The last animal is retired."""
     stamps = {1: 0, 2: 100, 3: 2**64 - 2, 4: 50}
     lines = ['fresh 16 4 16', *('set %d 1 %d %d' % (animal, stamp, stamp) for animal, stamp in stamps.items())]
     lines += ['poke items 14 %d' % check.RETIRED_MARK, 'poke items 15 0', 'judge']

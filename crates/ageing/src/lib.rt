@@ -11,7 +11,7 @@ use model::Reading;
 // As now, the largest number is no minute.
 const NO_MINUTE: u64 = 18446744073709551615;
 
-// As the stamp of an entry it is the mark of a standing permission, which is retired.
+// As the stamp of an entry, the largest number marks a standing permission, which is retired.
 const RETIRED_MARK: u64 = 18446744073709551615;
 
 // The least that is told to be left: -2^62.

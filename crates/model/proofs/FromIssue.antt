@@ -71,7 +71,7 @@ module _ (M told : ℕ) (l : List ℕ) (g : Grant) (long : length l ≡ 4 * M) w
       go false false z e = (eqb-false (g .animal) 0 z, kept-set (walk-is l (g .animal) M 0) e)
 
 -- in a well-formed table the walk comes to the place that holds the animal
-walk-there : (Y : Shape) (m : Mem) → WellFormed Y m → (x : ℕ) → x ≢ 0 → (p : ℕ) → animal (m .items) p ≡ x
+pub walk-there : (Y : Shape) (m : Mem) → WellFormed Y m → (x : ℕ) → x ≢ 0 → (p : ℕ) → animal (m .items) p ≡ x
     → {o : Option ℕ} → First (λ q. eqb (animal (m .items) q) x) (range 0 (Y .places)) o → o ≡ some p
 walk-there Y m w x nz p e (found {i = i} r t) =
     let f = eqb-true (animal (m .items) i) x t in ap some (w .distinct i p (rw f nz) (f ∙ sym e))

@@ -1,14 +1,16 @@
 -- Wish 6, on any memory: what is said of an entry with the mark, that serve makes no store for it, and that a list replaces it. Assumes nothing.
-use Prim.Native.Nat.{ℕ, _≤_}
+use Prim.Native.Nat.{ℕ, _%_, _≤_}
+use native.Mathlib.Omega.{arith}
 use mathlib.Core.Path.{_≡_, refl, sym, ap, _∙_}
 use mathlib.Core.Logic.{_≢_}
 use mathlib.Core.Bool.{Bool, true, false}
 use mathlib.Core.Option.{Option, some}
 use mathlib.Core.List.{[]}
+use lib.ListN.{getD}
 use borrow.Author.Tests.{eq-eqb, le-ltb, ne-eqb}
 use Rattle.model.specs.Choice.{choose}
-use Rattle.model.specs.Memory.{Mem, permission, stamp}
-use Rattle.model.specs.Shape.{Shape, Ways, counter-of, shape-of}
+use Rattle.model.specs.Memory.{Mem, animal, permission, stamp}
+use Rattle.model.specs.Shape.{Shape, Ways, counter-of, homes, shape-of}
 use Rattle.model.specs.Calling.{read, serve, set-animal}
 use Rattle.model.specs.Age.{bad-time, is-fresh, judge, no-minute, retired-mark}
 use Rattle.model.specs.Calls.{Outcome, asked, held, refuse, serve-at, set-at, tell, updated}
@@ -16,12 +18,14 @@ use Rattle.model.specs.Late.{ItsTurn}
 use Rattle.model.specs.Lent.{lent-call}
 use Rattle.model.specs.Ours.{ours, traced}
 use Rattle.model.specs.Stores.{stores, wholes}
-use Rattle.model.specs.Retired.{RetiredAt, RetiredReads, RetiredReplaced, RetiredThenDated, RetiredUnserved}
-use Rattle.model.proofs.ListLaws.{bool}
+use Rattle.model.specs.Retired.{RetiredAt, RetiredHeld, RetiredReads, RetiredReplaced, RetiredThenDated, RetiredUnserved}
+use Rattle.model.proofs.ListLaws.{bool, walk-is}
+use Rattle.model.proofs.Calm.{none-damaged}
+use Rattle.model.proofs.ReadWalk.{held-walk}
 use Rattle.model.proofs.Verdict.{says-retired}
 use Rattle.model.proofs.Late.{in-turn, never-late}
 use Rattle.model.proofs.Linked.{leaves-lent}
-use Rattle.model.proofs.FromIssue.{from-issue-on}
+use Rattle.model.proofs.FromIssue.{from-issue-on, walk-there}
 
 -- a retired stamp is never fresh
 never-fresh : (limit now : ℕ) {s : ℕ} → s ≡ retired-mark → is-fresh limit now s ≡ false
@@ -53,6 +57,19 @@ module _ (W : Ways) (m : Mem) (x p : ℕ) (r : RetiredAt W m x p) where
         (λ _ e. rw (r .lengths, ne-eqb x 0 (r .real), e))
         (λ _ e. ap (λ (o : Outcome). o .blocks) (lent-serve e) ∙ rw (never-fresh limit now (r .marked))) refl
 
+pub retired-held : (W : Ways) → RetiredHeld W
+retired-held W m p right w live marked =
+    let Y = shape-of W m in
+    let x = animal (m .items) p in
+    record {
+      lengths = right;
+      real = live;
+      calm = ne-eqb (getD (m .counters) (counter-of Y x) 0 % 2) 1 (omega (arith, w .even (counter-of Y x)));
+      sound = none-damaged Y m (w .undamaged) (homes Y x);
+      held-at = held-walk Y m w x live ∙ walk-there Y m w x live p refl (walk-is (m .items) x (Y .places) 0);
+      marked = marked;
+    }
+
 pub retired-reads : (W : Ways) → RetiredReads W (ours W)
 retired-reads W m x p r limit now l n =
     let b = good W m x p r limit now l n in
@@ -73,6 +90,7 @@ retired-replaced W m g p r timely issued =
     = in-turn W m g turn ∙ ap (set-at Y m g) (r .held-at) ∙ rw (never-late (stamp (m .items) p) g (r .marked)) refl in (
       ap (λ (o : Outcome). o .answer) there,
       ap (λ (m′ : Mem). m′ .items) (leaves-lent W m (set-animal g)) ∙ ap (λ (o : Outcome). wholes (o .blocks) m .items) there,
+      ap (λ (m′ : Mem). m′ .slots) (leaves-lent W m (set-animal g)) ∙ ap (λ (o : Outcome). wholes (o .blocks) m .slots) there,
     )
 
 pub retired-then-dated : (W : Ways) → RetiredThenDated W (ours W)

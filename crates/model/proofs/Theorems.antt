@@ -38,6 +38,7 @@ owed =
       held-tells = verdict.held-tells;
       ahead-tells-nothing = verdict.ahead-tells-nothing;
       fresh-iff-left = iff.fresh-iff-left;
+      retired-held = retired.retired-held;
       retired-reads = retired.retired-reads;
       retired-unserved = retired.retired-unserved;
       retired-replaced = retired.retired-replaced;

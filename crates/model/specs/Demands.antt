@@ -197,7 +197,8 @@ module _ (W : Ways) where
   NeverLost T = (s : Story) (c : Call) → Typed c → HasCut c → (x p : ℕ) → x ≢ 0 → walk-to (row T s) x (places s) 0 ≡ some p
       → x ≢ gone c (T .answer (table T s) (did c)) → (k : ℕ) → Stands (shape-in s) (cut-at T k (table T s) (did c)) x
 
-  -- Age runs from issue, wish 1's first words, of any table: after a set that was stored, whenever it came, a read says what its permission and its minute of issue say
+  -- Age runs from issue, wish 1's first words, of any table: after a set that was stored, whenever it came, a read says
+  -- what its permission and its minute of issue say
   abbrev pub AgeFromIssue : Table → Type 0
   AgeFromIssue T = (s : Story) (g : Grant) → Typed (set-animal g)
       → (v n : ℕ) → T .answer (table T s) (did (set-animal g)) ≡ stored v n → (limit now : ℕ) → limit ≤ 10080 → now ≢ no-minute

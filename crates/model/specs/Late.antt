@@ -1,4 +1,4 @@
--- Wish 1, beyond its words, on any memory: when refusal 11 is given, and that no list lowers a stamp. Assumes nothing.
+-- Wish 1, beyond its words, on any memory: when refusal 11 is given, and that no list lowers a stamp but the mark. Assumes nothing.
 use Prim.Native.Nat.{ℕ, _<_, _≤_}
 use mathlib.Core.Path.{_≡_}
 use mathlib.Core.Logic.{_≢_, _↔_}

@@ -13,7 +13,7 @@ use Rattle.model.specs.Calling.{Call, did, evict, make-fresh}
 use Rattle.model.specs.Lent.{after-fresh, lent-after, lent-call, lent-cut}
 use Rattle.model.specs.Late.{LateRefused, StampsRise}
 use Rattle.model.specs.Left.{AheadTellsNothing, FreshIffLeft, HeldTells, LeftIs, LeftLeast}
-use Rattle.model.specs.Retired.{NoneRetired, RetiredAt, RetiredReads, RetiredReplaced, RetiredThenDated, RetiredUnserved}
+use Rattle.model.specs.Retired.{NoneRetired, RetiredAt, RetiredHeld, RetiredReads, RetiredReplaced, RetiredThenDated, RetiredUnserved}
 use Rattle.model.specs.WellFormed.{WellFormed}
 use Rattle.model.specs.AnyTable.{Table, cut-at, leaves}
 use Rattle.model.specs.Demands.{AgeFromIssue, Demand1, Demand2, Demand3, FreshAnywhere, NeverLost, Story, shape-in, table}
@@ -35,7 +35,7 @@ pub record Owed : Type 0 where
   pub fresh-anywhere : FreshAnywhere gate
   pub never-ten : (m : Mem) (hand : ℕ) → lent-call four m (evict hand) .answer ≢ refused 10
   pub well-story : (s : Story four) → WellFormed (shape-in four s) (table four gate s)
-  -- wish 1: age runs from issue, after any run of finished calls; and, beyond its words, when 11 is given, and that no list lowers a stamp, on any memory, four ways or eight
+  -- wish 1: age runs from issue, after any run of finished calls; and, beyond its words, when 11 is given, and that no list lowers a stamp but the mark, on any memory, four ways or eight
   pub age-from-issue : (W : Ways) → AgeFromIssue W (ours W)
   pub late-refused : (W : Ways) (m : Mem) (g : Grant) → LateRefused W m g
   pub stamps-rise : (W : Ways) (m : Mem) (g : Grant) → StampsRise W m g
@@ -46,6 +46,7 @@ pub record Owed : Type 0 where
   pub ahead-tells-nothing : AheadTellsNothing
   pub fresh-iff-left : (W : Ways) → FreshIffLeft (ours W)
   -- wish 6: a retired entry reads as old, is not made recent and is replaced, on any memory; and from fresh on a table that meets demand 2 has none
+  pub retired-held : (W : Ways) → RetiredHeld W
   pub retired-reads : (W : Ways) → RetiredReads W (ours W)
   pub retired-unserved : (W : Ways) → RetiredUnserved W (ours W)
   pub retired-replaced : (W : Ways) → RetiredReplaced W (ours W)

@@ -6,14 +6,14 @@ use mathlib.Core.Logic.{_≢_}
 use mathlib.Core.Bool.{true, false}
 use mathlib.Core.Option.{some}
 use mathlib.Core.List.{[], List·Memᴰ as In}
-use Rattle.model.specs.Memory.{Mem, stamp}
+use Rattle.model.specs.Memory.{Mem, animal, stamp}
 use Rattle.model.specs.Shape.{Ways, right-lengths, shape-of}
 use Rattle.model.specs.Calling.{did, read, serve, set-animal}
 use Rattle.model.specs.Answers.{old, stored}
 use Rattle.model.specs.Age.{least-left, no-minute, retired-mark}
 use Rattle.model.specs.Calls.{busy, held, home-damage}
 use Rattle.model.specs.Row.{renew, row-says}
-use Rattle.model.specs.WellFormed.{WellFormed}
+use Rattle.model.specs.WellFormed.{Live, WellFormed}
 use Rattle.model.specs.AnyTable.{Table, leaves}
 use Rattle.model.specs.Demands.{GoodInputs, Story, reads, table}
 use Rattle.model.specs.declared.Grant.{Grant}
@@ -32,6 +32,11 @@ module _ (W : Ways) where
     pub held-at : held (shape-of W m) m x ≡ some p
     pub marked : stamp (m .items) p ≡ retired-mark
 
+  -- on a well-formed memory every live place with the mark is one
+  abbrev pub RetiredHeld : Type 0
+  RetiredHeld = (m : Mem) (p : ℕ) → right-lengths W m ≡ true → WellFormed (shape-of W m) m → Live (m .items) p → stamp (m .items) p ≡ retired-mark
+      → RetiredAt m (animal (m .items) p) p
+
   -- what is so of a table T on every such memory; the limit and the minute are any that 3 does not refuse
   module _ (T : Table) where
     -- read and serve say old, overdue by as much as is told
@@ -43,11 +48,12 @@ module _ (W : Ways) where
     abbrev pub RetiredUnserved : Type 0
     RetiredUnserved = (m : Mem) (x p : ℕ) → RetiredAt m x p → (limit now : ℕ) → T .writes m (did (serve x limit now)) ≡ []
 
-    -- a set with good minutes, whatever they are, is stored, without a search, and its words replace those of the place
+    -- a set with good minutes, whatever they are, is stored, without a search; its words replace those of the place, and no slot changes
     abbrev pub RetiredReplaced : Type 0
     RetiredReplaced = (m : Mem) (g : Grant) (p : ℕ) → RetiredAt m (g .animal) p → g .minute ≢ no-minute → g .issued ≤ g .minute
         → (T .answer m (did (set-animal g)) ≡ stored 0 0)
         × (leaves T m (did (set-animal g)) .items ≡ renew (m .items) p (g .permission) (g .issued))
+        × (leaves T m (did (set-animal g)) .slots ≡ m .slots)
 
     -- from then on, on a well-formed memory, a read judges it by its minute of issue
     abbrev pub RetiredThenDated : Type 0

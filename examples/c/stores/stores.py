@@ -12,7 +12,8 @@ import random
 import struct
 import sys
 
-TOP = 2**64 - 1                                               # no minute; as a stamp: retired
+NO_MINUTE = 2**64 - 1                                         # as now
+RETIRED_MARK = 2**64 - 1                                      # as a stamp
 WIDTH = {'slots': 4, 'counters': 4, 'items': 8, 'buffer': 1}  # bytes of a word
 RUNS = ['slots', 'counters', 'items']
 ROOM = {'slots': 64, 'counters': 8, 'items': 256, 'buffer': 64}
@@ -105,15 +106,15 @@ def hit(t, animal):
 def check_asked(animal, limit, now):
     if animal == 0:
         raise Refusal(2)
-    if limit > 10080 or now == TOP:
+    if limit > 10080 or now == NO_MINUTE:
         raise Refusal(3)
 
 
 def judged(t, place, limit, now):
     permission, stamp = t.item(place, 1) % 2**32, t.item(place, 2)
-    if now < stamp < TOP:
+    if now < stamp < RETIRED_MARK:
         return 0, 3, 0, 0
-    left = -2**62 if stamp == TOP else max(limit - (now - stamp), -2**62)
+    left = -2**62 if stamp == RETIRED_MARK else max(limit - (now - stamp), -2**62)
     return (0, 1, permission, left) if left >= 0 else (0, 2, 0, left % 2**64)  # the bits that stores.c writes
 
 
@@ -175,7 +176,7 @@ def move(t, source, destination):
 def set_(t, animal, permission, issued, now):
     if animal == 0:
         raise Refusal(2)
-    if now == TOP or issued > now:
+    if now == NO_MINUTE or issued > now:
         raise Refusal(3)
     slot = hit(t, animal)
     tag, first, _ = homes(t, animal)
@@ -183,7 +184,7 @@ def set_(t, animal, permission, issued, now):
     parts = [animal, permission, issued, 1]
     if slot is not None:
         place = t.word['slots'][slot] % 65536
-        if issued < t.item(place, 2) < TOP:
+        if issued < t.item(place, 2) < RETIRED_MARK:
             raise Refusal(11)
         t.count(counter)
         for n in (1, 2, 3):
@@ -414,7 +415,7 @@ def compare(scenarios, memory, trace):
         else:
             # Each of the cuts has the memory that stood before.
             after = table if cuts is None else copy.deepcopy(table)
-            marked = [table.item(p, 0) for p in range(table.places) if table.item(p, 2) == TOP]
+            marked = [table.item(p, 0) for p in range(table.places) if table.item(p, 2) == RETIRED_MARK]
             answer, stores = call(after, op, numbers)
             said, joined = faults(seen, after, op, answer)
             if cuts not in (None, stores):
