@@ -3,11 +3,12 @@ use Prim.Native.Nat.{ℕ, _+_, _*_, _≤_, _/_}
 use native.Mathlib.Omega.{arith}
 use mathlib.Core.Path.{_≡_, refl, sym, ap, _∙_}
 use mathlib.Core.Logic.{_≢_}
-use mathlib.Core.Bool.{Bool}
+use mathlib.Core.Bool.{Bool, true, false, not}
 use mathlib.Core.Option.{Option, none, some}
 use mathlib.Core.List.{List, [], _∷_}
 use lib.ListN.{length, length-append}
 use lib.Dec.{eqb}
+use borrow.Author.Tests.{not-false}
 use Rattle.model.specs.Memory.{Mem, mem, place, stamp}
 use Rattle.model.specs.Shape.{Shape, Ways, pair, right-lengths, shape-of}
 use Rattle.model.specs.Stores.{stores}
@@ -22,24 +23,23 @@ use Rattle.model.proofs.Search.{length-climb}
 use Rattle.blocks.specs.Made.{all-stores}
 use Rattle.blocks.proofs.Budget.{Few, did-all, does-as, does-refuse, few-asked, few-or, few-refuse, stores-append}
 use Rattle.looking.specs.Look.{LooksUp, Passed, early}
-use Rattle.looking.proofs.Early.{early-outcome, early-passed}
+use Rattle.looking.proofs.Early.{due-one, due-three, due-two, early-outcome}
 use Rattle.looking.proofs.Looking.{look-holds, look-lacks, look-refused}
 use Rattle.setting.specs.Entering.{Homed, entering-new}
 use Rattle.model.specs.declared.Grant.{Grant}
 use Rattle.looking.specs.declared.Looked.{Looked}
 use Rattle.looking.specs.declared.Look.the-variants as look
 
-module _ (W : Ways) (m : Mem) (g : Grant) {b : Bool} (eb : b ≡ bad-grant g) {n : ℕ} (e : n ≡ early (right-lengths W m) (g .animal) b) where
+module _ (W : Ways) (m : Mem) (g : Grant) where
   abbrev rest : Outcome
   rest = set-at (shape-of W m) m g (held (shape-of W m) m (g .animal))
 
-  pub set-early : n ≢ 0 → {k : ℕ} → CutAs W m (set-animal g) k m (refused n)
-  set-early nz = does-refuse (early-outcome W m (g .animal) (bad-grant g) (rw eb at e) nz rest)
+  -- the cut form has one number for 1, 2 and 3
+  pub set-early : {b : Bool} → b ≡ bad-grant g → {n : ℕ} → n ≡ early (right-lengths W m) (g .animal) b → n ≢ 0
+      → {k : ℕ} → CutAs W m (set-animal g) k m (refused n)
+  set-early eb e nz = does-refuse (early-outcome W m (g .animal) (bad-grant g) (rw eb at e) nz rest)
 
-  module _ (z : n ≡ 0) {r : Looked} (l : LooksUp W m (g .animal) r) where
-    passed : Passed W m (g .animal) (bad-grant g)
-    passed = early-passed W m (g .animal) (bad-grant g) eb e z
-
+  module _ (passed : Passed W m (g .animal) (bad-grant g)) {r : Looked} (l : LooksUp W m (g .animal) r) where
     pub set-homed : Homed W m (g .animal) (r .homes)
     set-homed = record { right = passed .lengths; homes-are = l .homes-are }
 
@@ -95,19 +95,29 @@ module _ (W : Ways) (m : Mem) (g : Grant) where
   whole : 4 * W .reach + 7 ≤ all-stores → {m′ : Mem} {a : Answer} → CutAs W m (set-animal g) all-stores m′ a → WholeAs W m (set-animal g) m′ a
   whole h d = did-all (few-asked W m (g .animal) (bad-grant g) (few-set-at (held Y m (g .animal)))) h d
 
-module _ (W : Ways) (few : 4 * W .reach + 7 ≤ all-stores) (m : Mem) (g : Grant) {b : Bool} (eb : b ≡ bad-grant g) {n : ℕ}
-    (e : n ≡ early (right-lengths W m) (g .animal) b) where
-  pub whole-early : n ≢ 0 → WholeAs W m (set-animal g) m (refused n)
-  whole-early nz = whole W m g few (set-early W m g eb e nz)
+pub whole-lengths : (W : Ways) (m : Mem) {r : Bool} → r ≡ right-lengths W m → not r ≡ false → right-lengths W m ≡ true
+whole-lengths W m {r} e t = sym e ∙ not-false r t
 
-  module _ (z : n ≡ 0) {r : Looked} (l : LooksUp W m (g .animal) r) where
+module _ (W : Ways) (few : 4 * W .reach + 7 ≤ all-stores) (m : Mem) (g : Grant) where
+  -- the whole call leaves at the first refusal that is due
+  module _ {r : Bool} (e : r ≡ right-lengths W m) where
+    pub whole-one : not r ≡ true → WholeAs W m (set-animal g) m (refused 1)
+    whole-one t = whole W m g few (does-refuse (due-one W m (g .animal) (bad-grant g) e t (rest W m g)))
+
+    pub whole-two : not r ≡ false → g .animal ≡ 0 → WholeAs W m (set-animal g) m (refused 2)
+    whole-two t z = whole W m g few (does-refuse (due-two W m (g .animal) (bad-grant g) e t z (rest W m g)))
+
+    pub whole-three : not r ≡ false → g .animal ≢ 0 → {b : Bool} → b ≡ bad-grant g → b ≡ true → WholeAs W m (set-animal g) m (refused 3)
+    whole-three t nz eb y = whole W m g few (does-refuse (due-three W m (g .animal) (bad-grant g) e t nz eb y (rest W m g)))
+
+  module _ (passed : Passed W m (g .animal) (bad-grant g)) {r : Looked} (l : LooksUp W m (g .animal) r) where
     pub whole-refused : {j : ℕ} → r .look ≡ look.Refused j → WholeAs W m (set-animal g) m (refused j)
-    whole-refused q = whole W m g few (set-refused W m g eb e z l q)
+    whole-refused q = whole W m g few (set-refused W m g passed l q)
 
     pub whole-new : r .look ≡ look.Absent → {m′ : Mem} {a : Answer} → Does (entering-new W m g) all-stores m m′ a → WholeAs W m (set-animal g) m′ a
-    whole-new q d = whole W m g few (set-new W m g eb e z l q d)
+    whole-new q d = whole W m g few (set-new W m g passed l q d)
 
     pub whole-held : {w : ℕ} → r .look ≡ look.At w → {c i : List ℕ} {a : Answer}
         → ((s : List ℕ) → Does (set-held (m .items) (r .homes .counter) (place w) g) all-stores (mem s (m .counters) (m .items)) (mem s c i) a)
         → WholeAs W m (set-animal g) (mem (m .slots) c i) a
-    whole-held q d = whole W m g few (set-at-held W m g eb e z l q d)
+    whole-held q d = whole W m g few (set-at-held W m g passed l q d)

@@ -261,16 +261,23 @@ fn enter_apart(
     enter_new(slots, counters, items, g, homes, k)
 }
 
-// Set. Beside its cut form and not by way of it: an update is then compiled in one piece, and takes half the time.
+// Set. Beside its cut form and not by way of it: an update is then compiled in one piece, and takes half the time. Refusals 1, 2 and 3
+// leave one by one, as in read.
 pub fn set(slots: &mut [u32], counters: &mut [u32], items: &mut [u64], g: Grant) -> Setting
     ensures { λ r. ⌜ WholeAs four (mem (now (slots .entry)) (now (counters .entry)) (now (items .entry))) (set-animal g)
         (mem (now (slots .exit)) (now (counters .exit)) (now (items .exit))) (said-setting r) ⌝ }
 {
     let k = blocks::ALL_STORES;
+    let good = hashing::lengths_are_good(slots.len(), counters.len(), items.len());
+    if !good {
+        return Setting::Refused(1);
+    }
+    if g.animal == 0 {
+        return Setting::Refused(2);
+    }
     let bad = ageing::is_bad_grant(g);
-    let no = looking::refused_early(slots.len(), counters.len(), items.len(), g.animal, bad);
-    if no != 0 {
-        return Setting::Refused(no);
+    if bad {
+        return Setting::Refused(3);
     }
     let looked = look_whole(slots, counters, items, g.animal);
     let look = looked.look;
