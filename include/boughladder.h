@@ -25,11 +25,11 @@
  * milking, else bit 1 grazing, else holding. Every other answer and every refusal means holding. boughladder_lane says
  * all of this.
  *
- * One call at a time. No call, not even read, plain read, find, list or judge, may run while a writing call runs on the
- * same table. Fresh, set, delete, evict and their cut forms write, and so does serve. Put one mutex around every call,
- * as examples/c/antenna.c does; examples/c/torn.c shows the wrong answers that come without it. Reads, plain reads,
- * finds, lists and judges beside each other are fine. Refusal 8 (busy) is no lock: it tells of a write that was cut
- * off, not of one under way.
+ * One call at a time. No call, not even read, plain read, find, list, judge or plan, may run while a writing call runs
+ * on the same table. Fresh, set, delete, evict, their cut forms and the two steps write, and so does serve. Put one
+ * mutex around every call, as examples/c/antenna.c does; examples/c/torn.c shows the wrong answers that come without
+ * it. Reads, plain reads, finds, lists, judges and plans beside each other are fine. Refusal 8 (busy) is no lock: it
+ * tells of a write that was cut off, not of one under way.
  *
  * The cut forms make only the first k stores of their call and answer as the whole call does: they show what a loss of
  * power leaves. A counter left odd by a cut makes its animals busy (refusal 8), and they stay busy until fresh.
@@ -48,13 +48,26 @@
  *   - what came with minutes that ran ahead locks its animal: it reads as ahead, and every true list is late, until the
  *     clock is there; then the old permission is fresh once more. Delete her, then set her again.
  *
+ * A set in steps, with any calls between. plan says what a set of an absent animal would do now: up to four moves in
+ * the order of making, its place and the final slot. It changes nothing. Then boughladder_step_move makes one whole
+ * move after the other, and boughladder_step_enter the final store; without calls between they leave what the set
+ * leaves, word for word. Nothing is reserved, and nothing ties a step to its plan: each is judged by the words that it finds,
+ * and is made exactly if
+ *   - a move: both slots lie in the run, the source word is neither free nor damaged and has the planned tag, the
+ *     destination word is 0, and the destination lies in the entry's other bucket;
+ *   - the final store: the animal is absent, place and slot lie in their runs, the place is vacant, the slot is free
+ *     and lies in one of the animal's two buckets.
+ * Else it is refusal 12 and no word changes: plan again, or set. No read changes by a move; by the final store only the
+ * animal's own. Each step takes set's inputs, and 1, 2, 3, 8 and 4 come first, as in set of that animal. A held animal
+ * can't be planned (12): an update has no steps, it is a set.
+ *
  * Standing permissions are retired: no set makes one. A table from before 4.0.0 may hold some, with UINT64_MAX as their
  * stamp. Such an entry is old at every minute and under every limit, overdue by as much as is ever told, so it opens no
  * gate; serve leaves its recent word alone. No list is late for it: the next set of its animal that is not refused
  * replaces it. The list writes it as it is stored, and judge takes it for sound.
  *
- * No call takes memory but the three runs and the stack: about 3.2 KB for set, at most 0.4 KB for any other, as
- * examples/c/stack.c measures it.
+ * No call takes memory but the three runs and the stack: about 3.2 KB for set and plan, at most 0.4 KB for any other,
+ * as examples/c/stack.c measures it.
  * size_t is 64 bits wide in the archive. On a 32-bit target finding, setting, evicting and listing would be smaller,
  * and there is no archive for one.
  *
@@ -74,8 +87,8 @@
    boughladder_lane.
    A caller of 1.0.0 over a table does not compile: each set takes one minute more. One over the runs does: its minute
    and its standing, 0 or 1, are taken for issued and now. That is refusal 3, but for minutes 0 and 1.
-   Compile and link everything again. What is mixed does link (only judge is missing before 3.1.0, plain read before
-   2.1.0):
+   Compile and link everything again. What is mixed does link (only plan and the steps are missing before 4.1.0, judge
+   before 3.1.0, plain read before 2.1.0):
      - what was compiled with 2.0.0 to 3.1.0 sets every permission with its minute of issue, those it means to be
        standing too. Its cut form of set takes standing for k: where that is 0 it answers as ever and makes no store;
      - this header with an archive of 2.0.0 to 3.1.0 passes no standing: what lies on the stack is taken for it, and
@@ -86,9 +99,9 @@
      - this header with the archive of 1.0.0 has issued taken for now, and now for standing: every permission is then
        fresh for ever.
    Refusal, kind, permission and lane of a reading are right in the first and the third. */
-#define BOUGHLADDER_VERSION "4.0.0"
+#define BOUGHLADDER_VERSION "4.1.0"
 #define BOUGHLADDER_VERSION_MAJOR 4
-#define BOUGHLADDER_VERSION_MINOR 0
+#define BOUGHLADDER_VERSION_MINOR 1
 #define BOUGHLADDER_VERSION_PATCH 0
 
 /* Sizes: words of slots for n buckets, words of items for m places, bytes of a whole list of m places. V counters are
@@ -105,6 +118,7 @@
 #define BOUGHLADDER_MOST_V 1024
 #define BOUGHLADDER_LEAST_M 1
 #define BOUGHLADDER_MOST_M 4096
+#define BOUGHLADDER_MOST_MOVES 4 /* of a set, and so of a plan */
 #define BOUGHLADDER_LARGEST_LIMIT 10080 /* minutes: a week */
 #define BOUGHLADDER_LEAST_LEFT (-INT64_C(4611686018427387904)) /* -2^62 minutes; what would be less is told as this */
 
@@ -157,13 +171,14 @@ enum BoughladderRefusal {
     BOUGHLADDER_NO_ANIMAL = 2,     /* the animal number is 0 */
     BOUGHLADDER_BAD_TIME = 3,      /* the limit is above 10080, now is no minute, or issued is later than now */
     BOUGHLADDER_DAMAGED = 4,       /* a word that no call writes was read, or evict's victim has no slot */
-    BOUGHLADDER_NO_PLACE = 5,      /* set of an absent animal: all M places are taken */
-    BOUGHLADDER_NO_ROOM = 6,       /* set of an absent animal: no free slot within four moves */
+    BOUGHLADDER_NO_PLACE = 5,      /* set or plan of an absent animal: all M places are taken */
+    BOUGHLADDER_NO_ROOM = 6,       /* set or plan of an absent animal: no free slot within four moves */
     BOUGHLADDER_NOBODY = 7,        /* delete of an absent animal, or evict where no place is taken */
     BOUGHLADDER_BUSY = 8,          /* the animal's counter is odd: a write was cut off */
     BOUGHLADDER_SHORT_BUFFER = 9,  /* the list needs 20 bytes for each place that is taken */
     BOUGHLADDER_NO_VICTIM = 10,    /* the hand found no victim: proved never to happen */
-    BOUGHLADDER_LATE = 11          /* set of a held animal: its stamp is later than issued, and not retired */
+    BOUGHLADDER_LATE = 11,         /* set of a held animal: its stamp is later than issued, and not retired */
+    BOUGHLADDER_NOT_AS_PLANNED = 12 /* plan of a held animal, or a step that can't be made as it was planned */
 };
 
 /* What a call that was not refused found. */
@@ -215,6 +230,22 @@ typedef struct BoughladderSetting {
     size_t visits;  /* buckets looked at for room, at most 682; 0 where the animal was held already */
     size_t moves;   /* entries moved to make room, at most 4 */
 } BoughladderSetting;
+
+/* One move of a plan. */
+typedef struct BoughladderMove {
+    size_t from;   /* the slot that it empties */
+    uint32_t tag;  /* the tag of the entry there */
+    size_t to;     /* the slot that the entry goes to */
+} BoughladderMove;
+
+/* Plan. */
+typedef struct BoughladderPlan {
+    uint32_t refusal;
+    size_t count;  /* moves, at most 4 */
+    size_t place;  /* for the final store */
+    size_t slot;
+    BoughladderMove moves[BOUGHLADDER_MOST_MOVES];  /* in the order of making; 0 behind the first count */
+} BoughladderPlan;
 
 /* Evict. */
 typedef struct BoughladderEvicting {
@@ -289,6 +320,28 @@ BoughladderSetting boughladder_set_cut(uint32_t *slots, size_t slots_length, uin
                                        size_t counters_length, uint64_t *items, size_t items_length, uint64_t animal,
                                        uint32_t permission, uint64_t issued, uint64_t now, uint64_t k);
 
+/* Says what a set of an absent animal would do now, and changes nothing: its moves, its place, its slot.
+   Refusals 1, 2, 3, 8, 4, in this order; then 12 for an animal that is held, or 5, 4 and 6 for one that is not. Never
+   11, and no visits are told. */
+BOUGHLADDER_MUST_USE
+BoughladderPlan boughladder_plan(const uint32_t *slots, size_t slots_length, const uint32_t *counters,
+                                 size_t counters_length, const uint64_t *items, size_t items_length, uint64_t animal,
+                                 uint32_t permission, uint64_t issued, uint64_t now);
+
+/* One whole move of a plan, in 4 stores. Any record is judged by what it finds, also where the animal is held by now.
+   The reply is the refusal number, 0 where it was made. Refusals 1, 2, 3, 8, 4, as in set of that animal; then 12. */
+BOUGHLADDER_MUST_USE
+uint32_t boughladder_step_move(uint32_t *slots, size_t slots_length, uint32_t *counters, size_t counters_length,
+                               const uint64_t *items, size_t items_length, BoughladderMove move, uint64_t animal,
+                               uint32_t permission, uint64_t issued, uint64_t now);
+
+/* The final store, in 7 stores: the animal into that place and slot, with the stamp issued.
+   The reply is the refusal number, 0 where it was made. Refusals 1, 2, 3, 8, 4, as in set of that animal; then 12. */
+BOUGHLADDER_MUST_USE
+uint32_t boughladder_step_enter(uint32_t *slots, size_t slots_length, uint32_t *counters, size_t counters_length,
+                                uint64_t *items, size_t items_length, size_t place, size_t slot, uint64_t animal,
+                                uint32_t permission, uint64_t issued, uint64_t now);
+
 /* Takes the animal's entry away. The reply is the refusal number, 0 for success.
    Refusals 1, 2, 8, 4, 7. */
 BOUGHLADDER_MUST_USE
@@ -344,8 +397,8 @@ BoughladderJudgement boughladder_judge(const uint32_t *slots, size_t slots_lengt
    For tests of a cabinet against the published vectors. */
 uint32_t boughladder_fnv_byte(uint32_t h, uint8_t byte);
 
-/* The lent memory in one piece. Read, plain read, find, list and judge take a pointer to const; any other call through
-   one is a warning, in C++ an error. */
+/* The lent memory in one piece. Read, plain read, find, list, judge and plan take a pointer to const; any other call
+   through one is a warning, in C++ an error. */
 typedef struct BoughladderTable {
     uint32_t *slots;
     size_t slots_length;
@@ -428,6 +481,25 @@ static inline BoughladderSetting boughladder_table_set_cut(BoughladderTable *tab
 }
 
 BOUGHLADDER_MUST_USE
+static inline BoughladderPlan boughladder_table_plan(const BoughladderTable *table, uint64_t animal,
+                                                     uint32_t permission, uint64_t issued, uint64_t now) {
+    return boughladder_plan(BOUGHLADDER_LENT_(table), animal, permission, issued, now);
+}
+
+BOUGHLADDER_MUST_USE
+static inline uint32_t boughladder_table_step_move(BoughladderTable *table, BoughladderMove move, uint64_t animal,
+                                                   uint32_t permission, uint64_t issued, uint64_t now) {
+    return boughladder_step_move(BOUGHLADDER_LENT_(table), move, animal, permission, issued, now);
+}
+
+BOUGHLADDER_MUST_USE
+static inline uint32_t boughladder_table_step_enter(BoughladderTable *table, size_t place, size_t slot,
+                                                    uint64_t animal, uint32_t permission, uint64_t issued,
+                                                    uint64_t now) {
+    return boughladder_step_enter(BOUGHLADDER_LENT_(table), place, slot, animal, permission, issued, now);
+}
+
+BOUGHLADDER_MUST_USE
 static inline uint32_t boughladder_table_delete(BoughladderTable *table, uint64_t animal) {
     return boughladder_delete(BOUGHLADDER_LENT_(table), animal);
 }
@@ -493,6 +565,7 @@ static inline const char *boughladder_refusal_text(uint32_t refusal) {
         case BOUGHLADDER_SHORT_BUFFER: return "the buffer is too short for the list";
         case BOUGHLADDER_NO_VICTIM: return "the hand found no victim";
         case BOUGHLADDER_LATE: return "late: a permission that was issued later is held";
+        case BOUGHLADDER_NOT_AS_PLANNED: return "the animal to plan for is held, or a step can't be made as planned";
         default: return "no refusal number";
     }
 }
