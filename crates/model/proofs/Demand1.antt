@@ -17,7 +17,7 @@ use Rattle.model.specs.Age.{bad-time, judge, late, bad-grant}
 use Rattle.model.specs.Clock.{Victim, victim}
 use Rattle.model.specs.Listing.{listing, live-count}
 use Rattle.model.specs.Calls.{Outcome, asked, busy, call, delete-at, enter-at, evict-at, evict-slot, find-at, held, hit, home-damage, refuse}
-use Rattle.model.specs.Calls.{serve-at, set-at, slot-of, some-live, stopped, tell, vacant-place, visited, search-damage}
+use Rattle.model.specs.Calls.{final-at, may-enter, may-move, move-at, plan-at, plan-new, serve-at, set-at, slot-of, some-live, stopped, tell, vacant-place, visited, search-damage}
 use Rattle.model.specs.Lent.{lent-call}
 use Rattle.model.specs.AnyTable.{Table, Write, make-all}
 use Rattle.model.specs.Demands.{Demand1}
@@ -25,7 +25,7 @@ use Rattle.model.specs.Ours.{ours, traced, wipe}
 use Rattle.model.specs.declared.Grant.{Grant}
 use Rattle.model.proofs.Verdict.{of-verdict}
 use Rattle.model.proofs.ListLaws.{true-false, bool}
-use Rattle.model.specs.Calling.{Call, Event, make-fresh, read, did, serve, find, set-animal, delete, evict, write-list}
+use Rattle.model.specs.Calling.{Call, Event, make-fresh, read, did, serve, find, set-animal, delete, evict, write-list, plan-set, step-move, step-enter}
 use mathlib.Core.Logic.{dite}
 use native.Mathlib.Decide.{ℕ-discrete}
 use borrow.Author.Tests.{leb-false, eqb-true}
@@ -81,6 +81,16 @@ module _ (Y : Shape) (m : Mem) where
   sets g none = enters g (vacant-place (Y .places) (m .items))
   sets g (some p) = one-by-one (late (stamp (m .items) p) g) (refusal 11 refl) λ n e. true-false (ap is-refusal e) refl
 
+  plans-new : (x : ℕ) (o : Option ℕ) → Clean (plan-new Y m x o)
+  plans-new x none = refusal 5 refl
+  plans-new x (some p) =
+      one-by-one (search-damage Y m x) (refusal 4 refl)
+      (one-by-one (eqb (stopped Y m x) (length (visited Y m x))) (refusal 6 refl) λ n e. true-false (ap is-refusal e) refl)
+
+  plans : (x : ℕ) (o : Option ℕ) → Clean (plan-at Y m x o)
+  plans x none = plans-new x (vacant-place (Y .places) (m .items))
+  plans x (some p) = refusal 12 refl
+
   deletes : (x : ℕ) (o : Option ℕ) → Clean (delete-at Y m x o)
   deletes x none = refusal 7 refl
   deletes x (some i) = λ n e. true-false (ap is-refusal e) refl
@@ -116,6 +126,13 @@ module _ (Y : Shape) (m : Mem) where
       one-by-one (leb (Y .places) hand) (refusal 1 refl)
       (one-by-one (some-live (Y .places) (m .items)) (evicts hand (victim (Y .places) (m .items) hand)) (refusal 7 refl))
   clean (write-list size) = lists size
+  clean (plan-set g) = asks (g .animal) (bad-grant g) (plan-at Y m (g .animal) (held Y m (g .animal))) (plans (g .animal) (held Y m (g .animal)))
+  clean (step-move g v) =
+      asks (g .animal) (bad-grant g) (move-at Y m v)
+      (one-by-one (may-move Y (m .slots) v) (λ n e. true-false (ap is-refusal e) refl) (refusal 12 refl))
+  clean (step-enter g p i) =
+      asks (g .animal) (bad-grant g) (final-at Y m g p i)
+      (one-by-one (may-enter Y m (g .animal) p i) (λ n e. true-false (ap is-refusal e) refl) (refusal 12 refl))
 
 -- a table whose refusals are from the list and have no writes meets demand 1
 pub quiet-refusals : (T : Table) → ((m : Mem) (e : Event) (n : ℕ) → T .answer m e ≡ refused n → Listed n × (T .writes m e ≡ [])) → Demand1 T

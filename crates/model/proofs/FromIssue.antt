@@ -5,7 +5,7 @@ use mathlib.Core.Path.{_≡_, refl, sym, ap, _∙_, subst, ap₂}
 use mathlib.Core.Logic.{_≢_}
 use mathlib.Core.Bool.{Bool, true, false}
 use mathlib.Core.Option.{Option, some}
-use mathlib.Core.List.{List}
+use mathlib.Core.List.{List, []}
 use lib.ListN.{length}
 use lib.IntN.{ℤ}
 use lib.Dec.{eqb, ltb}
@@ -14,7 +14,7 @@ use Rattle.model.specs.Choice.{choose, range}
 use Rattle.model.specs.Memory.{Mem, animal, permission, stamp}
 use Rattle.model.specs.Shape.{Shape, Ways, right-lengths, shape-of}
 use Rattle.model.specs.Calling.{did, read, set-animal, Typed}
-use Rattle.model.specs.Answers.{Answer, ahead, fresh, is, old, refused, stored}
+use Rattle.model.specs.Answers.{Answer, ahead, fresh, is, old, planned, refused, stored, value}
 use Rattle.model.specs.Age.{least-left, no-minute}
 use Rattle.model.specs.Row.{Row, beyond, fill, plain, renew, row-bad-grant, row-bad-time, row-call, row-late, row-left, row-new, row-read, row-says, row-set, stay, walk-to}
 use Rattle.model.specs.WellFormed.{WellFormed}
@@ -89,23 +89,26 @@ row-told M l x limit now p nz lim min there =
     row-asked-by : Bool → Bool → Row
     row-asked-by b c = choose b (stay l (refused 2)) (choose c (stay l (refused 3)) (stay l (row-read M l limit now (walk-to l x M 0))))
 
--- what a read says has no counts to leave out
+-- what a read says has neither counts nor planned slots to leave out
 unplain : (limit now v s : ℕ) (a : Answer) → plain a ≡ row-says limit now v s → a ≡ row-says limit now v s
 unfolding row-says
 unplain limit now v s a = go (eqb s (2 ^ 64 - 1)) (ltb now s) (ltb limit (now - s))
   where
-    same : (r : Answer) → is 4 r ≡ false → plain a ≡ r → a ≡ r
-    same r n e = bool (λ b. choose b (stored 0 0) a ≡ r → a ≡ r) (is 4 a) (λ z f. true-false (ap (is 4) (sym f)) n) (λ z f. f) e
+    same : (r : Answer) → is 4 r ≡ false → is 10 r ≡ false → plain a ≡ r → a ≡ r
+    same r n k e =
+        bool (λ b. choose b (stored 0 0) (choose (is 10 a) (planned [] (value a 1) 0) a) ≡ r → a ≡ r) (is 4 a)
+        (λ z f. true-false (ap (is 4) (sym f)) n)
+        (λ z f. bool (λ b. choose b (planned [] (value a 1) 0) a ≡ r → a ≡ r) (is 10 a) (λ z f. true-false (ap (is 10) (sym f)) k) (λ z f. f) f) e
 
     z : ℤ
     z = row-left limit now s
 
     go : (b c d : Bool) → plain a ≡ choose b (old least-left) (choose c ahead (choose d (old z) (fresh v z)))
         → a ≡ choose b (old least-left) (choose c ahead (choose d (old z) (fresh v z)))
-    go true c d = same (old least-left) refl
-    go false true d = same ahead refl
-    go false false true = same (old z) refl
-    go false false false = same (fresh v z) refl
+    go true c d = same (old least-left) refl refl
+    go false true d = same ahead refl refl
+    go false false true = same (old z) refl refl
+    go false false false = same (fresh v z) refl refl
 
 module _ (W : Ways) (m₀ : Mem) (right : right-lengths W m₀ ≡ true) (m : Mem) (w : WellFormed (shape-of W m₀) m) (g : Grant) (t : Typed (set-animal g)) where
   abbrev Y : Shape

@@ -24,23 +24,7 @@ use Rattle.model.specs.Lent.{lent-after, lent-call}
 use Rattle.model.specs.Row.{renew}
 use Rattle.model.specs.declared.Grant.{Grant}
 use Rattle.model.proofs.ListLaws.{bool, true-false}
-
--- good minutes pass 3
-good-minutes : (g : Grant) → g .minute ≢ no-minute → g .issued ≤ g .minute → bad-grant g ≡ false
-good-minutes g t i = rw (ne-eqb (g .minute) no-minute t, le-ltb (g .minute) (g .issued) i)
-
-pub good-grant : {g : Grant} → GoodInputs g → bad-grant g ≡ false
-good-grant {g} good = good-minutes g (good .timely) (good .issued)
-
--- and only they do
-pub minutes-good : (g : Grant) → bad-grant g ≡ false → (g .minute ≢ no-minute) × (g .issued ≤ g .minute)
-minutes-good g e =
-    let n = neither (eqb (g .minute) no-minute) (ltb (g .minute) (g .issued)) e in
-    (eqb-false (g .minute) no-minute (n .0), ltb-false (g .minute) (g .issued) (n .1))
-  where
-    neither : (b c : Bool) → (b || c) ≡ false → (b ≡ false) × (c ≡ false)
-    neither true c e = true-false {b = true} refl e
-    neither false c e = (refl, e)
+use Rattle.model.proofs.Turns.{in-turn, turned}
 
 module _ (s : ℕ) (g : Grant) where
   -- a late list is what it is said to be
@@ -69,32 +53,6 @@ module _ (W : Ways) (m : Mem) (g : Grant) where
   abbrev rest : Outcome
   rest = set-at Y m g (held Y m x)
 
-  -- an outcome of this set: one of the early refusals, or what is held decides
-  abbrev Sorted : Outcome → Type 0
-  Sorted o = ((k : ℕ) × (k < 9) × (o ≡ refuse k)) ⊎ (ItsTurn W m g × (o ≡ rest))
-
-  early : (k : ℕ) → k < 9 → Sorted (refuse k)
-  early k h = inl (k, h, refl)
-
-  sorted : Sorted (lent-call W m (set-animal g))
-  sorted =
-      bool (λ b. Sorted (choose b (asked Y m x (bad-grant g) rest) (refuse 1))) (right-lengths W m)
-      (λ l. bool (λ b. Sorted (choose b (refuse 2) (choose (bad-grant g) (refuse 3) (choose (busy Y m x) (refuse 8) (choose (home-damage Y m x) (refuse 4) rest)))))
-      (eqb x 0) (λ z. early 2 (omega arith))
-      λ r. bool (λ b. Sorted (choose b (refuse 3) (choose (busy Y m x) (refuse 8) (choose (home-damage Y m x) (refuse 4) rest)))) (bad-grant g) (λ z. early 3 (omega arith))
-      λ t. bool (λ b. Sorted (choose b (refuse 8) (choose (home-damage Y m x) (refuse 4) rest))) (busy Y m x) (λ z. early 8 (omega arith))
-      λ c. bool (λ b. Sorted (choose b (refuse 4) rest)) (home-damage Y m x) (λ z. early 4 (omega arith))
-      λ d. let q = minutes-good g t in
-      inr (record { lengths = l; real = eqb-false x 0 r; timely = q .0; issued = q .1; calm = c; sound = d }, refl))
-      λ z. early 1 (omega arith)
-
-  -- a set whose answer is no early refusal
-  turned : ((k : ℕ) → k < 9 → lent-call W m (set-animal g) .answer ≢ refused k) → ItsTurn W m g × (lent-call W m (set-animal g) ≡ rest)
-  turned n = ⊎-elim (λ (k, h, e). absurd (n k h (ap (λ (o : Outcome). o .answer) e))) (λ t. t) sorted
-
-  pub in-turn : ItsTurn W m g → lent-call W m (set-animal g) ≡ rest
-  in-turn t = rw (t .lengths, ne-eqb x 0 (t .real), good-minutes g (t .timely) (t .issued), t .calm, t .sound)
-
   -- 11 is given to a held animal only
   new-other : (o : Option ℕ) → enter-at Y m g o .answer ≢ refused 11
   new-other none e = let z : _≡_ {A = ℕ} 5 11 = cc in absurd (omega arith)
@@ -115,9 +73,9 @@ module _ (W : Ways) (m : Mem) (g : Grant) where
 
   pub late-refused : LateRefused W m g
   late-refused = (
-    λ e. let t = turned (λ k h f. let z : 11 ≡ k = cc in absurd (omega arith)) in
+    λ e. let t = turned W m g rest (λ k h f. let z : 11 ≡ k = cc in absurd (omega arith)) in
         (t .0, held-late (held Y m x) refl (sym (ap (λ (o : Outcome). o .answer) (t .1)) ∙ e)),
-    λ (t, (p, d, l)). ap (λ (o : Outcome). o .answer) (in-turn t) ∙ rw (d .held-at, late-if (stamp (m .items) p) g l (d .entry)),
+    λ (t, (p, d, l)). ap (λ (o : Outcome). o .answer) (in-turn W m g rest t) ∙ rw (d .held-at, late-if (stamp (m .items) p) g l (d .entry)),
   )
 
   -- the stamp of a place after an update
@@ -131,7 +89,7 @@ module _ (W : Ways) (m : Mem) (g : Grant) where
   pub stamps-rise : StampsRise W m g
   stamps-rise p v n d e =
       let s = stamp (m .items) p in
-      let t = turned (λ k h f. let z : _≡_ {A = ℕ} 0 1 = cc in absurd (omega arith)) in
+      let t = turned W m g rest (λ k h f. let z : _≡_ {A = ℕ} 0 1 = cc in absurd (omega arith)) in
       bool (λ b. late s g ≡ b → lent-call W m (set-animal g) ≡ choose b (refuse 11) (updated (counter-of Y x) p g)
       → s ≤ stamp (lent-after W m (set-animal g) .items) p) (late s g)
       (λ u q f. let r : stored v n ≡ refused 11 = sym e ∙ ap (λ (o : Outcome). o .answer) f in let z : _≡_ {A = ℕ} 0 1 = cc in absurd (omega arith))

@@ -10,6 +10,7 @@ pub mod Verdict
 pub mod RowWords
 pub mod Trace
 pub mod Lent
+pub mod Turns
 pub mod Late
 pub mod Paper
 pub mod Said
@@ -36,6 +37,8 @@ pub mod NoTen
 pub mod Step
 pub mod StepSet
 pub mod StepEvict
+pub mod MaySteps
+pub mod StepInSteps
 pub mod Steps
 pub mod Runs
 pub mod RoomOnWellFormed

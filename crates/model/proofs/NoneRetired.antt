@@ -3,27 +3,27 @@ use Prim.Native.Nat.{ℕ, zero, suc, _+_, _*_, _%_}
 use native.Mathlib.Omega.{arith}
 use native.Mathlib.Decide.{ℕ-discrete, decLt}
 use mathlib.Core.Path.{_≡_, refl, sym, _∙_}
-use mathlib.Core.Logic.{_≢_, dite}
+use mathlib.Core.Logic.{_≢_, inl, inr, dite}
 use mathlib.Core.Bool.{Bool, true, false, not, _&&_}
 use mathlib.Core.Option.{Option, none, some}
-use mathlib.Core.List.{List, [], _∷_, List·Memᴰ as In, List·Memᴰ·head as head, List·Memᴰ·tail as tail}
+use mathlib.Core.List.{List, [], _∷_, List·Memᴰ as In, List·Memᴰ·head as head, List·Memᴰ·tail as tail, List·Memᴰ·not-nil as not-nil}
 use lib.ListN.{length, length-set, replicate, set, List·getD-eq-default}
 use lib.Seq.{getD-set-other, getD-set-same}
 use lib.Dec.{eqb, leb}
 use Rattle.model.specs.Choice.{choose}
 use Rattle.model.specs.Memory.{Mem, animal, recent, stamp}
 use Rattle.model.specs.Shape.{Ways}
-use Rattle.model.specs.Calling.{Event, delete, did, evict, find, make-fresh, read, serve, set-animal, write-list}
+use Rattle.model.specs.Calling.{Event, delete, did, evict, find, make-fresh, plan-set, read, serve, set-animal, step-enter, step-move, write-list}
 use Rattle.model.specs.Answers.{refused, says-fresh}
 use Rattle.model.specs.Age.{retired-mark}
 use Rattle.model.specs.AnyTable.{Table, beside, leaves}
-use Rattle.model.specs.Row.{Row, Turn, fill, note, passed, row-bad-grant, row-bad-time, row-clock, row-count, row-delete, row-event, row-evict, row-late, row-new, row-read, row-serve, row-set, stay, walk-to}
+use Rattle.model.specs.Row.{Row, Turn, fill, note, passed, row-bad-grant, row-bad-time, row-clock, row-count, row-delete, row-enter, row-event, row-evict, row-late, row-new, row-read, row-serve, row-set, stay, walk-to}
 use Rattle.model.specs.Demands.{Demand2, places}
-use Rattle.model.specs.Retired.{MinuteFits, NoneRetired}
+use Rattle.model.specs.Retired.{Brings, MinuteFits, NoneRetired}
 use Rattle.model.specs.declared.Grant.{Grant}
 use Rattle.model.proofs.ListLaws.{bool, zeros}
 use Rattle.model.proofs.RowWords.{grant-is}
-use Rattle.model.proofs.Late.{minutes-good}
+use Rattle.model.proofs.Turns.{minutes-good}
 
 -- no place of the row l has the mark
 abbrev Dated : List ℕ → Type 0
@@ -105,24 +105,43 @@ module _ (M told : ℕ) (l : List ℕ) (d : Dated l) where
   asked-fine : (x : ℕ) (bad : Bool) (r : Row) → (bad ≡ false → Fine r) → Fine (choose (eqb x 0) (stay l (refused 2)) (choose bad (stay l (refused 3)) r))
   asked-fine x bad r h = fine (eqb x 0) 2 _ λ _. fine bad 3 r h
 
-  event-fine : (e : Event) → ((g : Grant) → did (set-animal g) ≡ e → MinuteFits g) → Fine (row-event M told l e)
+  enter-fine : (g : Grant) → g .issued ≢ retired-mark → (p : ℕ) (o : Option ℕ) → Fine (row-enter M told l g p o)
+  enter-fine g ne p (some q) = d
+  enter-fine g ne p none =
+      fine (leb M p) 12 _ λ _. fine (not (eqb (animal l p) 0)) 12 _ λ _. fine (eqb told 12) 12 _ λ _.
+      filled l p (g .animal) (g .permission) (g .issued) 1 ne d
+
+  event-fine : (e : Event) → ((g : Grant) → Brings g (e ∷ []) → MinuteFits g) → Fine (row-event M told l e)
   event-fine make-fresh h = λ p. rw (zeros (4 * M) (4 * p + 2)) (λ q. absurd (omega arith))
   event-fine (did (read x limit now)) h = asked-fine x (row-bad-time M limit now) _ λ _. d
   event-fine (did (serve x limit now)) h = asked-fine x (row-bad-time M limit now) _ λ _. serve-fine limit now (walk-to l x M 0)
   event-fine (did (find x)) h = asked-fine x false _ λ _. d
   event-fine (did (set-animal g)) h =
-      asked-fine (g .animal) (row-bad-grant M g) _ λ b. set-fine g (issue-dated g (h g refl) b) (walk-to l (g .animal) M 0)
+      asked-fine (g .animal) (row-bad-grant M g) _ λ b. set-fine g (issue-dated g (h g (inl (head refl))) b) (walk-to l (g .animal) M 0)
   event-fine (did (delete x)) h = asked-fine x false _ λ _. delete-fine (walk-to l x M 0)
   event-fine (did (evict hand)) h =
       fine (leb M hand) 1 _ λ _. fine (eqb (row-count l M 0) 0) 7 _ λ _. evict-fine (row-clock M l (2 * M) hand 0) (turned M l (2 * M) hand 0 d)
   event-fine (did (write-list size)) h = d
+  event-fine (did (plan-set g)) h = asked-fine (g .animal) (row-bad-grant M g) _ λ _. d
+  event-fine (did (step-move g v)) h = asked-fine (g .animal) (row-bad-grant M g) _ λ _. d
+  event-fine (did (step-enter g p i)) h =
+      asked-fine (g .animal) (row-bad-grant M g) _ λ b.
+      enter-fine g (issue-dated g (h g (inr (p, i, head refl))) b) p (walk-to l (g .animal) M 0)
 
 -- a run of calls keeps the row dated
-run-dated : (T : Table) (M : ℕ) (m : Mem) (l : List ℕ) (es : List Event) → ((g : Grant) → In (did (set-animal g)) es → MinuteFits g)
+run-dated : (T : Table) (M : ℕ) (m : Mem) (l : List ℕ) (es : List Event) → ((g : Grant) → Brings g es → MinuteFits g)
     → Dated l → Dated (beside T M m l es)
 run-dated T M m l [] h d = d
 run-dated T M m l (e ∷ es) h d =
-    run-dated T M (leaves T m e) _ es (λ g i. h g (tail i)) (event-fine M _ l d e (λ g q. h g (head q)))
+    run-dated T M (leaves T m e) _ es (λ g b. h g (brings-on (λ x. tail) b)) (event-fine M _ l d e (λ g b. h g (brings-on first-of b)))
+  where
+    brings-on : {g : Grant} {cs ds : List Event} → ((x : Event) → In x cs → In x ds) → Brings g cs → Brings g ds
+    brings-on f (inl q) = inl (f _ q)
+    brings-on f (inr (p, i, q)) = inr (p, i, f _ q)
+
+    first-of : (x : Event) → In x (e ∷ []) → In x (e ∷ es)
+    first-of x (head q) = head q
+    first-of x (tail q) = absurd (not-nil q)
 
 pub none-retired : (W : Ways) (T : Table) → Demand2 W T → NoneRetired W T
 none-retired W T D s h p =

@@ -29,7 +29,7 @@ use Rattle.model.proofs.Trace.{blank, trace-all, trace-cut, wholes-stor
 use Rattle.model.specs.Calling.{make-fresh, Call, did, Typed, read, set-animal, serve, about}
 use Rattle.model.proofs.Calm.{past-asked}
 use Rattle.model.specs.Age.{bad-grant}
-use Rattle.model.proofs.Late.{good-grant}
+use Rattle.model.proofs.Turns.{good-grant}
 use Rattle.model.proofs.RowWords.{late-is}
 use Rattle.model.proofs.ReadWalk.{held-walk}
 

@@ -5,8 +5,14 @@ use mathlib.Core.Option.{Option, Option·getD}
 use mathlib.Core.List.{List, [], _∷_}
 use lib.ListN.{getD, drop}
 use lib.IntN.{ℤ, pos}
-use Rattle.model.specs.Answers.{Answer, Paper, absent, ahead, at-place, deleted, evicted, fresh, listed, old, paper, refused, started, stored}
+use Rattle.model.specs.Answers.{Answer, Paper, absent, ahead, at-place, deleted, evicted, fresh, listed, old, paper, refused, started, stored, planned, move-made, entry-made, record-numbers, moves-from}
+use Rattle.model.specs.declared.MoveRecord.{MoveRecord}
 use mathlib.Core.Logic.{_≢_}
+
+-- a plan's moves are read back off their numbers
+pub moves-back : (vs : List MoveRecord) → moves-from (record-numbers vs) ≡ vs
+moves-back [] = refl
+moves-back (v ∷ vs) = ap (λ vs. v ∷ vs) (moves-back vs)
 
 -- the answer is read back off them
 back-from : Option ℤ → ℕ → List ℕ → Answer
@@ -19,7 +25,10 @@ back-from o (suc (suc (suc (suc (suc zero))))) vs = deleted
 back-from o (suc (suc (suc (suc (suc (suc zero)))))) vs = evicted (getD vs 0 0) (getD vs 1 0) (getD vs 2 0)
 back-from o (suc (suc (suc (suc (suc (suc (suc zero))))))) vs = started
 back-from o (suc (suc (suc (suc (suc (suc (suc (suc zero)))))))) vs = listed (getD vs 0 0) (drop 1 vs)
-back-from o (suc (suc (suc (suc (suc (suc (suc (suc (suc n))))))))) vs = at-place (getD vs 0 0)
+back-from o (suc (suc (suc (suc (suc (suc (suc (suc (suc zero))))))))) vs = at-place (getD vs 0 0)
+back-from o (suc (suc (suc (suc (suc (suc (suc (suc (suc (suc zero)))))))))) vs = planned (moves-from (drop 2 vs)) (getD vs 0 0) (getD vs 1 0)
+back-from o (suc (suc (suc (suc (suc (suc (suc (suc (suc (suc (suc zero))))))))))) vs = move-made
+back-from o (suc (suc (suc (suc (suc (suc (suc (suc (suc (suc (suc (suc n)))))))))))) vs = entry-made
 
 back : Paper → Answer
 back r = go (r .values)
@@ -41,6 +50,9 @@ read-back (evicted x n h) = refl
 read-back started = refl
 read-back (listed n bs) = refl
 read-back (at-place p) = refl
+read-back (planned vs p i) = ap (λ vs. planned vs p i) (moves-back vs)
+read-back move-made = refl
+read-back entry-made = refl
 
 pub paper-injective : (a b : Answer) → paper a ≡ paper b → a ≡ b
 paper-injective a b e = sym (read-back a) ∙ ap back e ∙ read-back b
@@ -58,3 +70,6 @@ numbered (evicted x n k) h = absurd (h refl)
 numbered started h = absurd (h refl)
 numbered (listed n bs) h = absurd (h refl)
 numbered (at-place p) h = absurd (h refl)
+numbered (planned vs p i) h = absurd (h refl)
+numbered move-made h = absurd (h refl)
+numbered entry-made h = absurd (h refl)

@@ -23,7 +23,8 @@ use Rattle.model.proofs.ListLaws.{bool, walk-is}
 use Rattle.model.proofs.Calm.{none-damaged}
 use Rattle.model.proofs.ReadWalk.{held-walk}
 use Rattle.model.proofs.Verdict.{says-retired}
-use Rattle.model.proofs.Late.{in-turn, never-late}
+use Rattle.model.proofs.Turns.{in-turn}
+use Rattle.model.proofs.Late.{never-late}
 use Rattle.model.proofs.Linked.{leaves-lent}
 use Rattle.model.proofs.FromIssue.{from-issue-on, walk-there}
 
@@ -87,7 +88,7 @@ retired-replaced W m g p r timely issued =
     let turn : ItsTurn W m g = record { lengths = r .lengths; real = r .real; timely = timely; issued = issued; calm = r .calm; sound = r .sound } in
     let Y = shape-of W m in
     let there : lent-call W m (set-animal g) ≡ updated (counter-of Y (g .animal)) p g
-    = in-turn W m g turn ∙ ap (set-at Y m g) (r .held-at) ∙ rw (never-late (stamp (m .items) p) g (r .marked)) refl in (
+    = in-turn W m g (set-at Y m g (held Y m (g .animal))) turn ∙ ap (set-at Y m g) (r .held-at) ∙ rw (never-late (stamp (m .items) p) g (r .marked)) refl in (
       ap (λ (o : Outcome). o .answer) there,
       ap (λ (m′ : Mem). m′ .items) (leaves-lent W m (set-animal g)) ∙ ap (λ (o : Outcome). wholes (o .blocks) m .items) there,
       ap (λ (m′ : Mem). m′ .slots) (leaves-lent W m (set-animal g)) ∙ ap (λ (o : Outcome). wholes (o .blocks) m .slots) there,

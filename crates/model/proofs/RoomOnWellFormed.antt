@@ -28,7 +28,7 @@ use Rattle.model.proofs.Positions.{visits-count}
 use Rattle.model.proofs.Search.{room-iff, slot-is, stop-is, stop-le}
 use Rattle.model.proofs.ListLaws.{walk-first}
 use Rattle.model.proofs.Calm.{past-asked}
-use Rattle.model.proofs.Late.{good-grant}
+use Rattle.model.proofs.Turns.{good-grant}
 use Rattle.model.proofs.ReadWalk.{held-walk}
 use Rattle.model.proofs.StepSet.{final-home, found-room, no-search-damage}
 use Rattle.model.specs.Calling.{Call, set-animal}

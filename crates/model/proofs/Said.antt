@@ -2,8 +2,8 @@
 use Prim.Native.Nat.{ℕ}
 use native.Mathlib.Omega.{arith}
 use mathlib.Core.Path.{_≡_, refl, sym, ap, _∙_, ap₂}
-use Rattle.model.specs.Answers.{Answer, absent, ahead, at-place, deleted, evicted, fresh, listed, old, refused, started, stored}
-use Rattle.model.specs.Said.{said-deleting, said-finding, said-reading, said-setting, said-starting}
+use Rattle.model.specs.Answers.{Answer, absent, ahead, at-place, deleted, evicted, fresh, listed, old, refused, started, stored, planned, move-made, entry-made}
+use Rattle.model.specs.Said.{said-deleting, said-entry, said-finding, said-move, said-reading, said-setting, said-starting}
 use Rattle.model.specs.declared.Reading.{Reading}
 use Rattle.model.specs.declared.Reading.the-variants as reading
 use Rattle.model.specs.declared.Finding.{Finding}
@@ -12,6 +12,8 @@ use Rattle.model.specs.declared.Setting.{Setting}
 use Rattle.model.specs.declared.Setting.the-variants as setting
 use Rattle.model.specs.declared.Deleting.{Deleting}
 use Rattle.model.specs.declared.Deleting.the-variants as deleting
+use Rattle.model.specs.declared.Stepping.{Stepping}
+use Rattle.model.specs.declared.Stepping.the-variants as stepping
 use Rattle.model.specs.declared.Starting.{Starting}
 use Rattle.model.specs.declared.Starting.the-variants as starting
 
@@ -28,6 +30,9 @@ unread (evicted x n h) = reading.Absent
 unread started = reading.Absent
 unread (listed n bs) = reading.Absent
 unread (at-place p) = reading.Absent
+unread (planned vs p i) = reading.Absent
+unread move-made = reading.Absent
+unread entry-made = reading.Absent
 
 reading-back : (r : Reading) → unread (said-reading r) ≡ r
 unfolding unread
@@ -69,3 +74,15 @@ starting-one starting.Started starting.Started e = refl
 starting-one starting.Started (starting.Refused n) e = let z : _≡_ {A = ℕ} 0 1 = cc in absurd (omega arith)
 starting-one (starting.Refused n) starting.Started e = let z : _≡_ {A = ℕ} 0 1 = cc in absurd (omega arith)
 starting-one (starting.Refused n) (starting.Refused k) e = let z : n ≡ k = cc in ap starting.Refused z
+
+pub move-one : (r r′ : Stepping) → said-move r ≡ said-move r′ → r ≡ r′
+move-one stepping.Made stepping.Made e = refl
+move-one stepping.Made (stepping.Refused n) e = let z : _≡_ {A = ℕ} 0 1 = cc in absurd (omega arith)
+move-one (stepping.Refused n) stepping.Made e = let z : _≡_ {A = ℕ} 0 1 = cc in absurd (omega arith)
+move-one (stepping.Refused n) (stepping.Refused k) e = let z : n ≡ k = cc in ap stepping.Refused z
+
+pub entry-one : (r r′ : Stepping) → said-entry r ≡ said-entry r′ → r ≡ r′
+entry-one stepping.Made stepping.Made e = refl
+entry-one stepping.Made (stepping.Refused n) e = let z : _≡_ {A = ℕ} 0 1 = cc in absurd (omega arith)
+entry-one (stepping.Refused n) stepping.Made e = let z : _≡_ {A = ℕ} 0 1 = cc in absurd (omega arith)
+entry-one (stepping.Refused n) (stepping.Refused k) e = let z : n ≡ k = cc in ap stepping.Refused z

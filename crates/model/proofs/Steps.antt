@@ -7,8 +7,8 @@ use lib.Ieee.{size}
 use Rattle.model.specs.Memory.{Mem}
 use Rattle.model.specs.Shape.{Shape, homes}
 use Rattle.model.specs.Age.{bad-time, judge, bad-grant}
-use Rattle.model.specs.Calls.{call, delete-at, find-at, held, hit, hits, serve-at, set-at, tell}
-use Rattle.model.specs.Row.{row-bad-grant, row-bad-time, row-call, row-delete, row-find, row-read, row-serve, row-set, stay}
+use Rattle.model.specs.Calls.{call, delete-at, final-at, find-at, held, hit, hits, move-at, plan-at, serve-at, set-at, tell}
+use Rattle.model.specs.Row.{row-bad-grant, row-bad-time, row-call, row-delete, row-enter, row-find, row-move, row-plan, row-read, row-serve, row-set, stay}
 use Rattle.model.specs.WellFormed.{WellFormed}
 use Rattle.model.proofs.ShapeLaws.{Lawful}
 use Rattle.model.proofs.ListLaws.{First, first-is}
@@ -17,7 +17,8 @@ use Rattle.model.proofs.RowWords.{grant-is, time-is}
 use Rattle.model.proofs.Step.{Step, as-walked, step-asked, step-delete, step-find, step-list, step-read, step-serve, walked}
 use Rattle.model.proofs.StepSet.{step-set}
 use Rattle.model.proofs.StepEvict.{step-evict}
-use Rattle.model.specs.Calling.{Call, Typed, about, read, serve, find, set-animal, delete, evict, write-list}
+use Rattle.model.proofs.StepInSteps.{step-final, step-moves, step-plan}
+use Rattle.model.specs.Calling.{Call, Typed, about, read, serve, find, set-animal, delete, evict, write-list, plan-set, step-move, step-enter}
 
 module _ (Y : Shape) (L : Lawful Y) (m : Mem) (g : WellFormed Y m) where
   pub step : (c : Call) → Typed c → Step Y (about c) m (call Y m c) (λ f. row-call (Y .places) f (m .items) c)
@@ -50,3 +51,16 @@ module _ (Y : Shape) (L : Lawful Y) (m : Mem) (g : WellFormed Y m) where
       hit-first x = first-is (hits Y m x) (homes Y x)
   step (evict hand) h = step-evict Y L m g hand
   step (write-list size) h = step-list Y L m g size
+  step (plan-set q) h =
+      let x = q .animal in
+      step-asked Y (λ a. x) m g x (bad-grant q) (row-bad-grant (Y .places) q) (grant-is (Y .places) q) (plan-at Y m x (held Y m x))
+      (λ f. stay (m .items) (row-plan (Y .places) f (m .items) (walked Y L m g x)))
+      λ nz. as-walked Y L m g (λ a. x) x nz (λ o. plan-at Y m x o) (λ o f. stay (m .items) (row-plan (Y .places) f (m .items) o))
+      λ o k. step-plan Y L m g x k
+  step (step-move q v) h =
+      step-asked Y (λ a. 0) m g (q .animal) (bad-grant q) (row-bad-grant (Y .places) q) (grant-is (Y .places) q) (move-at Y m v)
+      (λ f. stay (m .items) (row-move (Y .places) f)) λ nz. step-moves Y L m g v
+  step (step-enter q p i) h =
+      let x = q .animal in
+      step-asked Y (λ a. x) m g x (bad-grant q) (row-bad-grant (Y .places) q) (grant-is (Y .places) q) (final-at Y m q p i)
+      (λ f. row-enter (Y .places) f (m .items) q p (walked Y L m g x)) λ nz. step-final Y L m g q nz h p i

@@ -3,6 +3,7 @@ use Prim.Native.Nat.{ℕ, _^_, _<_}
 use mathlib.Core.List.{List, [], _∷_}
 use Rattle.model.specs.Answers.{Answer, victim-in}
 use Rattle.model.specs.declared.Grant.{Grant}
+use Rattle.model.specs.declared.MoveRecord.{MoveRecord}
 
 -- what a set takes, in the order of a line
 abbrev pub grant : ℕ → ℕ → ℕ → ℕ → Grant
@@ -16,6 +17,9 @@ pub data Call : Type 0 where
   delete : (animal : ℕ) → Call
   evict : (hand : ℕ) → Call
   write-list : (size : ℕ) → Call
+  plan-set : (granted : Grant) → Call
+  step-move : (granted : Grant) (move : MoveRecord) → Call
+  step-enter : (granted : Grant) (place slot : ℕ) → Call
 
 -- a call on a table, or the call that makes one fresh
 pub data Event : Type 0 where
@@ -34,6 +38,10 @@ pub record Traits : Type 1 where
 abbrev looks-for : ℕ → Traits
 looks-for x = record { typed = Unit {0}; about = λ r. x; gone = λ r. 0; cut = ⊥ }
 
+-- a call with set's inputs that has no cut form, about that animal; a move is about nobody, for no answer changes by it
+abbrev granted : ℕ → Grant → Traits
+granted x g = record { typed = g .permission < 2 ^ 32; about = λ r. x; gone = λ r. 0; cut = ⊥ }
+
 abbrev pub traits : Call → Traits
 traits (read x limit now) = looks-for x
 traits (serve x limit now) = looks-for x
@@ -42,6 +50,9 @@ traits (set-animal g) = record { typed = g .permission < 2 ^ 32; about = λ r. g
 traits (delete x) = record { typed = Unit {0}; about = λ r. x; gone = λ r. x; cut = Unit {0} }
 traits (evict hand) = record { typed = Unit {0}; about = victim-in; gone = victim-in; cut = Unit {0} }
 traits (write-list size) = record { typed = Unit {0}; about = λ r. 0; gone = λ r. 0; cut = ⊥ }
+traits (plan-set g) = granted (g .animal) g
+traits (step-move g v) = granted 0 g
+traits (step-enter g p i) = granted (g .animal) g
 
 abbrev pub Typed : Call → Type 0
 Typed c = traits c .typed

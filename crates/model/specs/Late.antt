@@ -14,7 +14,7 @@ use Rattle.model.specs.Lent.{lent-after, lent-call}
 use Rattle.model.specs.declared.Grant.{Grant}
 
 module _ (W : Ways) (m : Mem) (g : Grant) where
-  -- the turn of 11 comes: 1, 2, 3, 8 and 4 are not due
+  -- the turn of 11 comes, and of 12 in a plan or a step: 1, 2, 3, 8 and 4 are not due
   pub record ItsTurn : Type 0 where
     pub lengths : right-lengths W m ≡ true
     pub real : g .animal ≢ 0

@@ -2,13 +2,13 @@
 -- serve makes no store for them, and a list replaces them; from fresh on there are none. Assumes nothing.
 use Prim.Native.Nat.{ℕ, _^_, _<_, _≤_}
 use mathlib.Core.Path.{_≡_}
-use mathlib.Core.Logic.{_≢_}
+use mathlib.Core.Logic.{_≢_, _⊎_}
 use mathlib.Core.Bool.{true, false}
 use mathlib.Core.Option.{some}
-use mathlib.Core.List.{[], List·Memᴰ as In}
+use mathlib.Core.List.{List, [], List·Memᴰ as In}
 use Rattle.model.specs.Memory.{Mem, animal, stamp}
 use Rattle.model.specs.Shape.{Ways, right-lengths, shape-of}
-use Rattle.model.specs.Calling.{did, read, serve, set-animal}
+use Rattle.model.specs.Calling.{Event, did, read, serve, set-animal, step-enter}
 use Rattle.model.specs.Answers.{old, stored}
 use Rattle.model.specs.Age.{least-left, no-minute, retired-mark}
 use Rattle.model.specs.Calls.{busy, held, home-damage}
@@ -17,6 +17,10 @@ use Rattle.model.specs.WellFormed.{Live, WellFormed}
 use Rattle.model.specs.AnyTable.{Table, leaves}
 use Rattle.model.specs.Demands.{GoodInputs, Story, reads, table}
 use Rattle.model.specs.declared.Grant.{Grant}
+
+-- what a set or a final store among some calls brings
+abbrev pub Brings : Grant → List Event → Type 0
+Brings g es = In (did (set-animal g)) es ⊎ ((p i : ℕ) × In (did (step-enter g p i)) es)
 
 -- a minute that a caller can pass
 abbrev pub MinuteFits : Grant → Type 0
@@ -63,5 +67,5 @@ module _ (W : Ways) where
 
     -- from fresh on no place has the mark, as long as the minutes fit their word
     abbrev pub NoneRetired : Type 0
-    NoneRetired = (s : Story W) → ((g : Grant) → In (did (set-animal g)) (s .calls) → MinuteFits g)
+    NoneRetired = (s : Story W) → ((g : Grant) → Brings g (s .calls) → MinuteFits g)
         → (p : ℕ) → stamp (table W T s .items) p ≢ retired-mark

@@ -8,10 +8,10 @@ use lib.ListN.{set, replicate}
 use lib.IntN.{ℤ, pos, negℤ, _-ℤ_}
 use lib.Signed.{ltZ}
 use lib.Dec.{ltb, leb, eqb}
-use Rattle.model.specs.Choice.{choose}
+use Rattle.model.specs.Choice.{choose, one-of}
 use Rattle.model.specs.Memory.{animal, permission, stamp, recent}
-use Rattle.model.specs.Calling.{Call, read, serve, find, set-animal, delete, evict, write-list, Event, make-fresh, did}
-use Rattle.model.specs.Answers.{Answer, refused, absent, fresh, old, ahead, stored, deleted, evicted, started, listed, at-place, is, paper, says-fresh}
+use Rattle.model.specs.Calling.{Call, read, serve, find, set-animal, delete, evict, write-list, plan-set, step-move, step-enter, Event, make-fresh, did}
+use Rattle.model.specs.Answers.{Answer, refused, absent, fresh, old, ahead, stored, deleted, evicted, started, listed, at-place, planned, move-made, entry-made, is, paper, value, says-fresh}
 use Rattle.model.specs.declared.Grant.{Grant}
 
 -- what a call on a row comes to: its answer and the row afterwards
@@ -135,6 +135,28 @@ module _ (M : ℕ) where
   row-set told l g (some p) =
       choose (row-late (stamp l p) g) (stay l (refused 11)) (record { answer = stored 0 0; words = renew l p (g .permission) (g .issued) })
 
+  -- plan: 12 for an animal that is held; else the place that a set would fill. Moves and slots are no words of a row
+  abbrev pub row-plan-new : ℕ → Option ℕ → Answer
+  row-plan-new told none = refused 5
+  row-plan-new told (some p) = choose (eqb told 6) (refused 6) (planned [] p 0)
+
+  abbrev pub row-plan : ℕ → List ℕ → Option ℕ → Answer
+  row-plan told l none = row-plan-new told (walk-to l 0 M 0)
+  row-plan told l (some p) = refused 12
+
+  -- a move leaves the row alone, and all that it hangs on is the slots: `told` is 12 if it was not made
+  abbrev pub row-move : ℕ → Answer
+  row-move told = choose (eqb told 12) (refused 12) move-made
+
+  -- the final store fills the planned place: 12 for an animal that is held and for a place that is not there or not vacant, and where
+  -- `told` is 12, for the slot
+  abbrev pub row-enter : ℕ → List ℕ → Grant → ℕ → Option ℕ → Row
+  row-enter told l g p (some q) = stay l (refused 12)
+  row-enter told l g p none =
+      choose (leb M p) (stay l (refused 12))
+      (choose (not (eqb (animal l p) 0)) (stay l (refused 12))
+      (choose (eqb told 12) (stay l (refused 12)) (record { answer = entry-made; words = fill l p (g .animal) (g .permission) (g .issued) 1 })))
+
   abbrev pub row-delete : List ℕ → Option ℕ → Row
   row-delete l none = stay l (refused 7)
   row-delete l (some p) = record { answer = deleted; words = fill l p 0 0 0 0 }
@@ -161,15 +183,21 @@ module _ (M : ℕ) where
       (choose (eqb (row-count l M 0) 0) (stay l (refused 7)) (row-evict l (row-clock M l (2 * M) hand 0)))
   row-call told l (write-list size) =
       stay l (choose (ltb size (20 * row-count l M 0)) (refused 9) (listed (row-count l M 0) (row-list l M 0)))
+  row-call told l (plan-set g) =
+      row-asked l (g .animal) (row-bad-grant g) (stay l (row-plan told l (walk-to l (g .animal) M 0)))
+  row-call told l (step-move g v) = row-asked l (g .animal) (row-bad-grant g) (stay l (row-move told))
+  row-call told l (step-enter g p i) =
+      row-asked l (g .animal) (row-bad-grant g) (row-enter told l g p (walk-to l (g .animal) M 0))
 
   -- with fresh among the calls: every word is 0
   abbrev pub row-event : ℕ → List ℕ → Event → Row
   row-event told l make-fresh = record { answer = started; words = replicate (4 * M) 0 }
   row-event told l (did c) = row-call told l c
 
--- the exceptions of demand 2: an answer without the search counts; and the refusal that a row can't know, 0 if it is none
+-- the exceptions of demand 2: an answer without the search counts and the planned slots; and the refusal that a row can't know, 6 or
+-- 12, 0 if it is none
 abbrev pub plain : Answer → Answer
-plain a = choose (is 4 a) (stored 0 0) a
+plain a = choose (is 4 a) (stored 0 0) (choose (is 10 a) (planned [] (value a 1) 0) a)
 
 abbrev pub beyond : Answer → ℕ
-beyond a = choose (eqb (paper a .number) 6) 6 0
+beyond a = choose (one-of (paper a .number) (6 ∷ 12 ∷ [])) (paper a .number) 0

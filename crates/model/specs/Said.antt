@@ -3,13 +3,18 @@ use Prim.Native.Nat.{ℕ, _*_}
 use mathlib.Core.List.{List, _++_}
 use lib.ListN.{length, take, drop}
 use Rattle.model.specs.Choice.{choose}
-use Rattle.model.specs.Answers.{is, paper, Answer, refused, absent, fresh, old, ahead, stored, deleted, evicted, started, listed, at-place}
+use Rattle.model.specs.Moves.{four-records}
+use Rattle.model.specs.Answers.{is, paper, value, moves-told, Answer, refused, absent, fresh, old, ahead, stored, deleted, evicted, started, listed, at-place, move-made, entry-made}
 use Rattle.model.specs.declared.Reading.{Reading}
 use Rattle.model.specs.declared.Reading.the-variants as reading
 use Rattle.model.specs.declared.Finding.{Finding}
 use Rattle.model.specs.declared.Finding.the-variants as finding
 use Rattle.model.specs.declared.Setting.{Setting}
 use Rattle.model.specs.declared.Setting.the-variants as setting
+use Rattle.model.specs.declared.Plan.{Plan}
+use Rattle.model.specs.declared.Planning.the-variants as planning
+use Rattle.model.specs.declared.Stepping.{Stepping}
+use Rattle.model.specs.declared.Stepping.the-variants as stepping
 use Rattle.model.specs.declared.Deleting.{Deleting}
 use Rattle.model.specs.declared.Deleting.the-variants as deleting
 use Rattle.model.specs.declared.Evicting.{Evicting}
@@ -37,6 +42,26 @@ said-finding (finding.Refused n) = refused n
 abbrev pub said-setting : Setting → Answer
 said-setting (setting.Stored v n) = stored v n
 said-setting (setting.Refused n) = refused n
+
+-- plan, from the answer to the code's: a refusal has nothing beside its number
+abbrev pub plan-of : Answer → Plan
+plan-of a =
+    record {
+      told = choose (is 10 a) planning.Planned (planning.Refused (paper a .number));
+      moves = four-records (moves-told a);
+      count = length (moves-told a);
+      place = value a 1;
+      slot = value a 2;
+    }
+
+-- a step: a move, or the final store
+abbrev pub said-move : Stepping → Answer
+said-move stepping.Made = move-made
+said-move (stepping.Refused n) = refused n
+
+abbrev pub said-entry : Stepping → Answer
+said-entry stepping.Made = entry-made
+said-entry (stepping.Refused n) = refused n
 
 -- delete
 abbrev pub said-deleting : Deleting → Answer

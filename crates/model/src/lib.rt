@@ -38,6 +38,28 @@ pub enum Setting {
     Refused(u32),
 }
 
+// Plan: whether there is one.
+pub enum Planning {
+    Planned,
+    Refused(u32),
+}
+
+// A plan: the first `count` of its moves, in the order of making, then the place and the slot of the final store. An enum holds no array,
+// so whether it was refused stands beside.
+pub struct Plan {
+    pub told: Planning,
+    pub moves: [MoveRecord; 4],
+    pub count: usize,
+    pub place: usize,
+    pub slot: usize,
+}
+
+// A step: one whole move of a plan, or its final store.
+pub enum Stepping {
+    Made,
+    Refused(u32),
+}
+
 // Delete.
 pub enum Deleting {
     Deleted,
