@@ -43,24 +43,13 @@ same-bool false false h k = refl
 module _ (Y : Shape) (m : Mem) (slots-long : length (m .slots) ≡ Y .buckets * Y .layout .ways)
     (apart : (t b : ℕ) → Y .layout .other t b ≢ b)
     (points : (i : ℕ) → word m i ≢ 0 → Right Y (animal (m .items) (place (word m i))) (word m i) i) where
-  in-slots : {i b : ℕ} → i < Y .buckets * Y .layout .ways → bucket Y i ≡ b → In i (slots-of Y b)
-  in-slots {i} {b} h e =
-      let pos : 0 < Y .layout .ways = dite (ℕ-discrete (Y .layout .ways) 0) (λ z. absurd (omega (arith, rw z at h))) (λ nz. omega arith) in
-      rw (← e) (range-in (i / Y .layout .ways * Y .layout .ways) (Y .layout .ways) (omega (arith, div-add-mod' i (Y .layout .ways)))
-      (omega (arith, div-add-mod' i (Y .layout .ways), mod-lt i pos)))
-
-  home-in : {x i : ℕ} → word m i ≢ 0 → Home Y x (bucket Y i) → In i (homes Y x)
-  home-in {x} {i} nz h =
-      let l : i < Y .buckets * Y .layout .ways = rw (← slots-long) (inside-held (m .slots) i nz) in
-      ⊎-elim (λ e. Memᴰ·append-left (slots-of Y (second-of Y x)) (in-slots l e)) (λ e. Memᴰ·append-right (slots-of Y (Y .first-of x)) (in-slots l e)) h
-
   -- every slot that points to a place with animal x is a home slot of x
   pub pointer-in : (p x i : ℕ) → animal (m .items) p ≡ x → names p (word m i) ≡ true → In i (homes Y x)
   pointer-in p x i e t =
       let n = names-is p (word m i) t in
       let a : animal (m .items) (place (word m i)) ≡ x = rw (n .1) e in
       let r : Right Y x (word m i) i = rw a at (points i (n .0)) in
-      home-in (n .0) (r .home)
+      home-in Y m slots-long (n .0) (r .home)
 
   -- two buckets share no slot
   far-apart : (a b i : ℕ) → a ≢ b → In i (slots-of Y a) → ¬ In i (slots-of Y b)

@@ -24,7 +24,7 @@ use Rattle.model.specs.Choice.{choose}
 use lib.Dec.{eqb}
 
 -- the counters after two additions to one of them
-abbrev up : List ℕ → ℕ → List ℕ
+abbrev pub up : List ℕ → ℕ → List ℕ
 up l c = set l c ((getD l c 0 + 1) % 2 ^ 32)
 
 even-up : (l : List ℕ) (c : ℕ) → c < length l → ((j : ℕ) → getD l j 0 % 2 ≡ 0) → (j : ℕ) → getD (up (up l c) c) j 0 % 2 ≡ 0

@@ -4,6 +4,7 @@ pub mod AsWritten
 pub mod ListLaws
 pub mod Hash
 pub mod ShapeLaws
+pub mod HomeSlots
 pub mod Calm
 pub mod Left
 pub mod Verdict
@@ -22,6 +23,7 @@ pub mod PathMoves
 pub mod Room
 pub mod Positions
 pub mod Search
+pub mod Sources
 -- Pillar WORDS: a block keeps a table well-formed; a read finds what a walk over the places finds
 pub mod MovedWords
 pub mod KeepBlocks
@@ -39,6 +41,7 @@ pub mod StepSet
 pub mod StepEvict
 pub mod MaySteps
 pub mod StepInSteps
+pub mod MoveKeeps
 pub mod Steps
 pub mod Runs
 pub mod RoomOnWellFormed

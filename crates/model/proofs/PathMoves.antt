@@ -10,7 +10,7 @@ use Rattle.model.specs.Shape.{Layout}
 use Rattle.model.specs.Moves.{Free, Legal, Move, Run, moved, moved-by, word-in}
 use Rattle.model.specs.Visits.{hop}
 use Rattle.model.proofs.Reach.{Reach, cleared, in-bucket, kept, onward, reached}
-use Rattle.model.proofs.Paths.{Away, Distinct, Slots, into, path-moves, stops, walk}
+use Rattle.model.proofs.Paths.{Away, Distinct, Slots, Untouched, into, path-moves, stops, walk}
 use Rattle.model.proofs.Levels.{walk-reach}
 
 after-append : (T : List ℕ) (xs ys : List Move) → moved-by T (xs ++ ys) ≡ moved-by (moved-by T xs) ys
@@ -20,6 +20,10 @@ after-append T (x ∷ xs) ys = after-append (moved T x) xs ys
 run-append : (S : Layout) (T : List ℕ) (xs ys : List Move) → Run S T xs → Run S (moved-by T xs) ys → Run S T (xs ++ ys)
 run-append S T [] ys r q = q
 run-append S T (x ∷ xs) ys r q = (r .0, run-append S (moved T x) xs ys (r .1) q)
+
+untouched-append : (T U : List ℕ) (xs ys : List Move) → Untouched T U xs → Untouched T (moved-by U xs) ys → Untouched T U (xs ++ ys)
+untouched-append T U [] ys h k = k
+untouched-append T U (x ∷ xs) ys h k = (h .0, untouched-append T (moved U x) xs ys (h .1) k)
 
 pub into-slot : (S : Layout) (p : List ℕ) {r : ℕ} → r < S .ways → Slots S p → into p r < S .ways
 into-slot S [] hr h = hr
@@ -51,6 +55,7 @@ module _ (S : Layout) (T : List ℕ) where
   module _ (n : ℕ) (size : length T ≡ n * S .ways) (closed : (t b : ℕ) → b < n → S .other t b < n) (r : ℕ) (hr : r < S .ways) where
     pub record Done (b : ℕ) (p : List ℕ) (U : List ℕ) : Type 0 where
       pub run : Run S T (path-moves S T b p r)
+      pub untouched : Untouched T T (path-moves S T b p r)
       pub len : length U ≡ length T
       pub freed : word-in S U b (into p r) ≡ 0
       pub rest : (c s : ℕ) → s < S .ways → Away c (b ∷ stops S T b p) → word-in S U c s ≡ word-in S T c s
@@ -63,22 +68,23 @@ module _ (S : Layout) (T : List ℕ) where
       abbrev m : Move
       m = record { from = b * S .ways + s; to = hop S T b s * S .ways + into p r }
 
+      same : Done (hop S T b s) p U → word-in S U b s ≡ word-in S T b s
+      same d = d .rest b s (h .0) (off b (hop S T b s) p (h .1) (r, hr, f) (λ j k. short j (omega arith)))
+
       legal : Done (hop S T b s) p U → Legal S U m
       legal d =
           record {
-            held = λ z. short 0 (omega arith) (reached (s, h .0, sym same ∙ z));
+            held = λ z. short 0 (omega arith) (reached (s, h .0, sym (same d) ∙ z));
             inside = rw (d .len, size) (digits-lt (closed (tag (word-in S T b s)) b hb) (into-slot S p hr (h .1)));
             vacant = d .freed;
-            goes = simp (digits-div, into-slot S p hr (h .1), h .0, same);
+            goes = simp (digits-div, into-slot S p hr (h .1), h .0, same d);
           }
-        where
-          same : word-in S U b s ≡ word-in S T b s
-          same = d .rest b s (h .0) (off b (hop S T b s) p (h .1) (r, hr, f) (λ j k. short j (omega arith)))
 
       extend : Done (hop S T b s) p U → Done b (s ∷ p) (moved-by T (path-moves S T b (s ∷ p) r))
       extend d =
           record {
             run = run-append S T (path-moves S T (hop S T b s) p r) (m ∷ []) (d .run) (legal d, tt);
+            untouched = untouched-append T T (path-moves S T (hop S T b s) p r) (m ∷ []) (d .untouched) (same d, tt);
             len = rw after-append (simp length-set (d .len));
             freed = rw after-append (cleared S U m b s (h .0) (legal d .held) refl);
             rest = λ x k hk a. rw after-append
@@ -86,6 +92,6 @@ module _ (S : Layout) (T : List ℕ) where
           }
 
     pub path-done : (b : ℕ) (p : List ℕ) → b < n → Slots S p → word-in S T (walk S T b p) r ≡ 0 → Short b p → Done b p (moved-by T (path-moves S T b p r))
-    path-done b [] hb h f short = record { run = tt; len = refl; freed = f; rest = λ c s k a. refl }
+    path-done b [] hb h f short = record { run = tt; untouched = tt; len = refl; freed = f; rest = λ c s k a. refl }
     path-done b (s ∷ p) hb h f short =
         extend b s p hb h f short (path-done (hop S T b s) p (closed (tag (word-in S T b s)) b hb) (h .1) f (short-tail b s p h short))

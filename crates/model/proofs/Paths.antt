@@ -6,7 +6,7 @@ use mathlib.Core.List.{List, [], _∷_, _++_, List·Memᴰ as Mem}
 use lib.ListN.{length, getD}
 use Rattle.model.specs.Choice.{first}
 use Rattle.model.specs.Shape.{Layout}
-use Rattle.model.specs.Moves.{Free, Move, Run, moved-by, word-in}
+use Rattle.model.specs.Moves.{Free, Move, Run, moved, moved-by, word-in}
 use Rattle.model.specs.Visits.{hop, lands, next-level, visits}
 
 -- x is none of a list's numbers; the numbers are pairwise different
@@ -22,6 +22,11 @@ Distinct (x ∷ xs) = Away x xs × Distinct xs
 abbrev pub into : List ℕ → ℕ → ℕ
 into [] r = r
 into (s ∷ p) r = s
+
+-- each of some moves finds in its source, when its turn comes in the slots U, the word that stands there in T
+abbrev pub Untouched : List ℕ → List ℕ → List Move → Type 0
+Untouched T U [] = Unit {0}
+Untouched T U (m ∷ ms) = (getD U (m .from) 0 ≡ getD T (m .from) 0) × Untouched T (moved U m) ms
 
 module _ (S : Layout) where
   -- level k of the visit list, where bs is level 0
@@ -66,19 +71,22 @@ module _ (S : Layout) where
       pub free : word-in S T (walk T b p) r ≡ 0
       pub first : (k v : ℕ) → k < length p → Mem v (level T k bs) → ¬ Free S T v
 
-    -- the path's buckets differ, the moves along it are legal one after the other and free a slot of the home, and no fewer moves do
+    -- the path's buckets differ, the moves along it are legal one after the other, move what stood there at first and free a slot of the
+    -- home, and no fewer moves do
     pub record Fewest (b : ℕ) (p : List ℕ) (r : ℕ) : Type 0 where
       pub different : Distinct (b ∷ stops T b p)
       pub run : Run S T (path-moves T b p r)
+      pub untouched : Untouched T T (path-moves T b p r)
       pub count : length (path-moves T b p r) ≡ length p
       pub slot : into p r < S .ways
       pub freed : word-in S (moved-by T (path-moves T b p r)) b (into p r) ≡ 0
       pub fewest : (ms : List Move) → Run S T ms → (c : ℕ) → Mem c bs → Free S (moved-by T ms) c → length p ≤ length ms
 
-    -- the moves ms are legal one after the other, the slot i or, if there are moves, the source of the last is then free and in a
-    -- home, and no fewer moves leave a free slot in a home
+    -- the moves ms are legal one after the other and move what stood there at first, the slot i or, if there are moves, the source of the
+    -- last is then free and in a home, and no fewer moves leave a free slot in a home
     pub record Shortest (i : ℕ) (ms : List Move) : Type 0 where
       pub run : Run S T ms
+      pub untouched : Untouched T T ms
       pub inside : lands i ms < length T
       pub freed : getD (moved-by T ms) (lands i ms) 0 ≡ 0
       pub home : Mem (lands i ms / S .ways) bs

@@ -246,6 +246,7 @@ module _ (S : Layout) (T : List ℕ) (bs : List ℕ) (d q r : ℕ) (before : (i 
         rw (t .same)
         (record {
           run = f .run;
+          untouched = f .untouched;
           inside = rw (at-slot, size) (digits-lt (home-in (t .b) (t .home)) (f .slot));
           freed = rw at-slot (f .freed);
           home = rw (at-slot, digits-div, f .slot) (t .home);

@@ -21,19 +21,9 @@ use Rattle.model.specs.WellFormed.{Live, Right, WellFormed}
 use Rattle.model.proofs.ListLaws.{inside-held, First, both-is, both-yes, first-is, found, missing, range-in, true-false, walk-is}
 use Rattle.model.proofs.Calm.{calm, quick}
 use Rattle.model.proofs.KeepBlocks.{live-in}
-
-in-slots : (Y : Shape) {i b : ℕ} → i < Y .buckets * Y .layout .ways → bucket Y i ≡ b → In i (slots-of Y b)
-in-slots Y {i} {b} h e =
-    let pos : 0 < Y .layout .ways = dite (ℕ-discrete (Y .layout .ways) 0) (λ z. absurd (omega (arith, rw z at h))) (λ nz. omega arith) in
-    rw (← e) (range-in (i / Y .layout .ways * Y .layout .ways) (Y .layout .ways) (omega (arith, div-add-mod' i (Y .layout .ways)))
-    (omega (arith, div-add-mod' i (Y .layout .ways), mod-lt i pos)))
+use Rattle.model.proofs.HomeSlots.{home-in}
 
 module _ (Y : Shape) (m : Mem) (g : WellFormed Y m) where
-  pub home-in : {x i : ℕ} → word m i ≢ 0 → Home Y x (bucket Y i) → In i (homes Y x)
-  home-in {x} {i} nz h =
-      let l : i < Y .buckets * Y .layout .ways = rw (← g .slots-long) (inside-held (m .slots) i nz) in
-      ⊎-elim (λ e. Memᴰ·append-left (slots-of Y (Y .layout .other (Y .tag-of x) (Y .first-of x))) (in-slots Y l e)) (λ e. Memᴰ·append-right (slots-of Y (Y .first-of x)) (in-slots Y l e)) h
-
   module _ (x : ℕ) (nz : x ≢ 0) where
     pub hit-number : (i : ℕ) → hits Y m x i ≡ true → animal (m .items) (place (word m i)) ≡ x
     unfolding hits
@@ -45,7 +35,7 @@ module _ (Y : Shape) (m : Mem) (g : WellFormed Y m) where
     hit-at {p} {i} e nw f =
         let a : animal (m .items) (place (word m i)) ≡ x = rw f e in
         let r : Right Y x (word m i) i = rw a at (g .points i nw) in
-        (home-in nw (r .home), both-yes (r .tagged) a)
+        (home-in Y m (g .slots-long) nw (r .home), both-yes (r .tagged) a)
 
     agree : {o o′ : Option ℕ} → First (hits Y m x) (homes Y x) o → First (λ p. eqb (animal (m .items) p) x) (range 0 (Y .places)) o′ → place-at m o ≡ o′
     agree (found {i = i} q t) (found {i = p} q′ t′) =

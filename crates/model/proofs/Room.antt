@@ -42,6 +42,7 @@ module _ (S : Layout) (T : List ℕ) (n : ℕ) (size : length T ≡ n * S .ways)
       record {
         different = distinct S T b p (o .slots) (r, o .slot, o .free) (short b (o .home));
         run = y .run;
+        untouched = y .untouched;
         count = length-path-moves S T b p r;
         slot = into-slot S p (o .slot) (o .slots);
         freed = y .freed;

@@ -119,7 +119,7 @@ module _ (Y : Shape) (L : Lawful Y) (m : Mem) (g : WellFormed Y m) (q : Grant) (
 
     made : call Y m the-set ≡ entered Y m q p → Entered Y (m .slots) x (after-call Y m the-set .slots) (length (moves-found Y m x))
     made e =
-        let r = found-room Y L m g x ne in
+        let r = found-room Y L m (g .slots-long) x ne in
         record {
           moves = moves-found Y m x;
           count = refl;
@@ -128,13 +128,13 @@ module _ (Y : Shape) (L : Lawful Y) (m : Mem) (g : WellFormed Y m) (q : Grant) (
           word = Y .tag-of x * 65536 + p;
           inside = r .inside;
           vacant = r .freed;
-          home = final-home Y L m g x ne;
+          home = final-home Y L m (g .slots-long) x ne;
           result = ap (λ (o : Outcome). wholes (o .blocks) m .slots) e ∙ entered-slots (final-slot Y m x) (moves-found Y m x) m;
         }
 
     least : (ms : List Move) → Opens Y (m .slots) x ms → length (moves-found Y m x) ≤ length ms
     least ms o =
-        let r = found-room Y L m g x ne in
+        let r = found-room Y L m (g .slots-long) x ne in
         ⊎-elim (r .fewest ms (o .0) (Y .first-of x) (head refl)) (r .fewest ms (o .0) (second-of Y x) (tail (head refl))) (o .1)
 
   pub roomy : Roomy Y (m .slots) x A (after-call Y m the-set .slots)

@@ -15,7 +15,7 @@ use Rattle.model.proofs.ShapeLaws.{Lawful, tagged-word}
 use Rattle.model.proofs.ListLaws.{First, first-is, found, missing, range-in, true-false}
 use Rattle.model.proofs.KeepBlocks.{Fits, entry-sound, free-sound, live-in}
 use Rattle.model.proofs.View.{AllSpare, Entry, OffItem, OffSlot, View}
-use Rattle.model.proofs.ReadWalk.{home-in}
+use Rattle.model.proofs.HomeSlots.{home-in}
 
 -- the animal that a block is about
 abbrev pub subject : Mem → Block → ℕ
@@ -42,7 +42,7 @@ module _ (Y : Shape) (L : Lawful Y) (m : Mem) (g : WellFormed Y m) (x : ℕ) (nz
       let r : Right Y x (word m (s .0)) (s .0) = rw a at (g .points (s .0) (s .1 .0)) in (
         some (record { slot = s .0; place = p; permission = permission (m .items) p; stamp = stamp (m .items) p }),
         record {
-          stands = record { home = home-in Y m g (s .1 .0) (r .home); tagged = r .tagged; points = s .1 .1; holds = e; permission-is = refl; stamp-is = refl };
+          stands = record { home = home-in Y m (g .slots-long) (s .1 .0) (r .home); tagged = r .tagged; points = s .1 .1; holds = e; permission-is = refl; stamp-is = refl };
           only = λ k f. sym (g .distinct p k (rw e nz) (e ∙ sym f));
           sound = g .undamaged;
         },

@@ -22,7 +22,7 @@ use Rattle.model.proofs.ShapeLaws.{Lawful, tagged-word}
 use Rattle.model.proofs.ListLaws.{First, both-is, both-yes, first-is, found, missing, true-false}
 use Rattle.model.proofs.Calm.{none-damaged}
 use Rattle.model.proofs.KeepBlocks.{keep}
-use Rattle.model.proofs.ReadWalk.{home-in}
+use Rattle.model.proofs.HomeSlots.{home-in}
 use Rattle.model.proofs.Cut.{Tale, last, quiet}
 use Rattle.model.proofs.Clock.{AllLive, Sought, nobody, passed-live, row-clock-is, row-turned, rub, somebody, sought}
 use Rattle.model.proofs.RowWords.{live-one}
@@ -67,7 +67,7 @@ module _ (Y : Shape) (L : Lawful Y) (m : Mem) (g : WellFormed Y m) (hand : ℕ) 
   step-slot v lv (missing h) =
       let s = g .pointed (v .place) lv in
       let r : Right Y (animal (m .items) (v .place)) (word m (s .0)) (s .0) = rw (s .1 .1) at (g .points (s .0) (s .1 .0)) in
-      true-false (both-yes (r .tagged) (s .1 .1)) (h (s .0) (home-in Y m g (s .1 .0) (r .home)))
+      true-false (both-yes (r .tagged) (s .1 .1)) (h (s .0) (home-in Y m (g .slots-long) (s .1 .0) (r .home)))
   step-slot v lv (found {i = i} q h) =
       let x = animal (m .items) (v .place) in
       let b = both-is (tag (word m i)) (Y .tag-of x) (place (word m i)) (v .place) h in

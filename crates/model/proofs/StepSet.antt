@@ -54,24 +54,24 @@ unfolding first
 none-there f h [] = refl
 none-there f h (b ∷ l) = rw (h b, none-there f h l)
 
-module _ (Y : Shape) (L : Lawful Y) (m : Mem) (g : WellFormed Y m) (x : ℕ) where
-  -- no word is damaged, so the search meets no damage
-  pub no-search-damage : search-damage Y m x ≡ false
-  no-search-damage =
-      none-there (λ b. damage-at (Y .places) (m .slots) (slots-of Y b)) (λ b. none-damaged Y m (g .undamaged) (slots-of Y b))
-      (take (stopped Y m x + 1) (visited Y m x))
+-- no word is damaged, so the search meets no damage
+pub no-search-damage : (Y : Shape) (L : Lawful Y) (m : Mem) (g : WellFormed Y m) (x : ℕ) → search-damage Y m x ≡ false
+no-search-damage Y L m g x =
+    none-there (λ b. damage-at (Y .places) (m .slots) (slots-of Y b)) (λ b. none-damaged Y m (g .undamaged) (slots-of Y b))
+    (take (stopped Y m x + 1) (visited Y m x))
 
-  -- the search stops before the end of the visit list: what it finds
+module _ (Y : Shape) (L : Lawful Y) (m : Mem) (long : length (m .slots) ≡ Y .buckets * Y .layout .ways) (x : ℕ) where
+  -- the search stops before the end of the visit list: what it finds, on any memory of the right length
   pub found-room : stopped Y m x ≢ length (visited Y m x)
       → Shortest (Y .layout) (m .slots) (pair Y x) (stop-slot (Y .layout) (m .slots) (pair Y x) (Y .reach)) (moves-found Y m x)
   found-room ne =
-      search-some (Y .layout) (m .slots) (Y .buckets) (g .slots-long) (L .other-in) (pair Y x)
-      (pair-in (Y .layout) (m .slots) (Y .buckets) (g .slots-long) (L .other-in) (Y .tag-of x) (Y .first-of x) (L .first-in x) (Y .reach))
+      search-some (Y .layout) (m .slots) (Y .buckets) long (L .other-in) (pair Y x)
+      (pair-in (Y .layout) (m .slots) (Y .buckets) long (L .other-in) (Y .tag-of x) (Y .first-of x) (L .first-in x) (Y .reach))
       (Y .reach) (omega (arith, stop-le (Y .layout) (m .slots) (visited Y m x)))
 
   pub final-home : stopped Y m x ≢ length (visited Y m x) → Home Y x (bucket Y (final-slot Y m x))
   final-home ne =
-      in-pair (Y .layout) (m .slots) (Y .buckets) (g .slots-long) (L .other-in) (Y .tag-of x) (Y .first-of x) (L .first-in x) (Y .reach)
+      in-pair (Y .layout) (m .slots) (Y .buckets) long (L .other-in) (Y .tag-of x) (Y .first-of x) (L .first-in x) (Y .reach)
       (bucket Y (final-slot Y m x)) (found-room ne .home)
 
 module _ (Y : Shape) (L : Lawful Y) (m : Mem) (g : WellFormed Y m) (q : Grant) (nz : q .animal ≢ 0) (hv : q .permission < 2 ^ 32) where
@@ -88,9 +88,9 @@ module _ (Y : Shape) (L : Lawful Y) (m : Mem) (g : WellFormed Y m) (q : Grant) (
           real = nz;
           inside = inside;
           vacant = rw ei vacant;
-          slot = rw (g′ .slots-long, ← g .slots-long) (found-room Y L m g x ne .inside);
-          free = rw es (found-room Y L m g x ne .freed);
-          home = final-home Y L m g x ne;
+          slot = rw (g′ .slots-long, ← g .slots-long) (found-room Y L m (g .slots-long) x ne .inside);
+          free = rw es (found-room Y L m (g .slots-long) x ne .freed);
+          home = final-home Y L m (g .slots-long) x ne;
           entry = refl;
           narrow = hv;
           new = λ k. rw ei (new k);
@@ -99,7 +99,7 @@ module _ (Y : Shape) (L : Lawful Y) (m : Mem) (g : WellFormed Y m) (q : Grant) (
 
     enter-tale : Tale Y x m (enter-blocks Y m q p)
     enter-tale =
-        moves-tale Y L x (moves-found Y m x) m g (found-room Y L m g x ne .run) (enter-block Y q p (final-slot Y m x) ∷ [])
+        moves-tale Y L x (moves-found Y m x) m g (found-room Y L m (g .slots-long) x ne .run) (enter-block Y q p (final-slot Y m x) ∷ [])
         λ m′ g′ es ei. last {b = enter-block Y q p (final-slot Y m x)} (enters m′ g′ es ei) refl
 
   step-new : ((p : ℕ) → animal (m .items) p ≢ x) → {o : Option ℕ} → Held Y L m g 0 o
