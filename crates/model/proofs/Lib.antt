@@ -56,4 +56,5 @@ pub mod FromIssue
 pub mod Retired
 pub mod NoneRetired
 pub mod Linked
+pub mod InSteps
 pub mod Theorems
