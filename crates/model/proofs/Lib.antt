@@ -57,4 +57,5 @@ pub mod Retired
 pub mod NoneRetired
 pub mod Linked
 pub mod InSteps
+pub mod CarriedOut
 pub mod Theorems

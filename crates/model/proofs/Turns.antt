@@ -18,7 +18,7 @@ use Rattle.model.specs.declared.Grant.{Grant}
 use Rattle.model.proofs.ListLaws.{bool, true-false}
 
 -- good minutes pass 3
-good-minutes : (g : Grant) → g .minute ≢ no-minute → g .issued ≤ g .minute → bad-grant g ≡ false
+pub good-minutes : (g : Grant) → g .minute ≢ no-minute → g .issued ≤ g .minute → bad-grant g ≡ false
 good-minutes g t i = rw (ne-eqb (g .minute) no-minute t, le-ltb (g .minute) (g .issued) i)
 
 pub good-grant : {g : Grant} → GoodInputs g → bad-grant g ≡ false
