@@ -106,11 +106,11 @@ module _ (W : Ways) where
       pub alike-right : right-lengths W m ≡ true
       alike-right = rw (a .slots-same, a .counters-same, a .items-same) right
 
-      alike-yard : shape-of W m ≡ Y
-      alike-yard = rw (a .slots-same, a .counters-same, a .items-same)
+      pub alike-shape : shape-of W m ≡ Y
+      alike-shape = rw (a .slots-same, a .counters-same, a .items-same)
 
       pub alike-call : (c : Call) → lent-call W m c ≡ call Y m c
-      alike-call c = ap (λ b. choose b (call (shape-of W m) m c) (refuse 1)) alike-right ∙ ap (λ Z. call Z m c) alike-yard
+      alike-call c = ap (λ b. choose b (call (shape-of W m) m c) (refuse 1)) alike-right ∙ ap (λ Z. call Z m c) alike-shape
 
       pub alike-reading : (x limit now : ℕ) → event-answer W m (did (read x limit now)) ≡ reading Y m x limit now
       unfolding reading

@@ -58,4 +58,5 @@ pub mod NoneRetired
 pub mod Linked
 pub mod InSteps
 pub mod CarriedOut
+pub mod PlanRoom
 pub mod Theorems
