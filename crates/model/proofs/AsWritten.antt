@@ -13,8 +13,8 @@ use Rattle.model.specs.Visits.{climb, first-free, free-slot, hops, lowes
 use Rattle.model.specs.Age.{is-fresh, left-of, verdict}
 use Rattle.model.specs.Clock.{next-hand, passed-recent, seek-victim}
 use Rattle.model.specs.Listing.{list-record, listing, live-count, records}
-use Rattle.model.specs.Calls.{hit, hits, slot-of, some-live, vacant-place}
-use Rattle.model.specs.Examples.{AllHold, answers, cuts, edges, examples, late-lists, left-rows, one-hurt, refusals, retired, retired-rows, retired-words, row-edges, row-examples, row-numbers, seen-through, turns, two-tags}
+use Rattle.model.specs.Calls.{hit, hits, may-enter, may-move, slot-of, some-live, vacant-place}
+use Rattle.model.specs.Examples.{AllHold, answers, cuts, edges, examples, final-stores, late-lists, left-rows, one-hurt, plans, refusals, retired, retired-rows, retired-words, row-edges, row-examples, row-numbers, row-steps, seen-through, single-moves, turns, two-tags}
 use Rattle.model.specs.Retired.{RetiredAt}
 use Rattle.model.specs.Stores.{stores}
 use Rattle.model.specs.Row.{walk-to, row-left, row-says, row-clock, row-count, row-list, low-bytes}
@@ -22,7 +22,8 @@ use Rattle.model.specs.Row.{walk-to, row-left, row-says, row-clock, row-
 -- a refl for each row: where a definition says another thing, the first error is at the first row that is false
 pub all-hold : AllHold examples × AllHold refusals × AllHold turns × AllHold edges × AllHold cuts × AllHold late-lists × AllHold row-examples × AllHold row-edges
     × AllHold (left-rows answers) × AllHold (left-rows (row-numbers 0)) × AllHold (retired-rows answers) × AllHold (retired-rows (row-numbers 0)) × AllHold retired-words
-unfolding hash fnv fnv-step bytes tag-from odd-up spread other-bucket tag place damaged range first good-lengths good-slots good-counters good-items hits hit vacant-place some-live visits next-level hops first-free free-slot lowest climb is-fresh left-of verdict next-hand seek-victim passed-recent slot-of list-record records live-count listing stores seen-through walk-to row-left row-says row-clock row-count row-list low-bytes
+    × AllHold plans × AllHold single-moves × AllHold final-stores × AllHold row-steps
+unfolding hash fnv fnv-step bytes tag-from odd-up spread other-bucket tag place damaged range first good-lengths good-slots good-counters good-items hits hit vacant-place some-live may-move may-enter visits next-level hops first-free free-slot lowest climb is-fresh left-of verdict next-hand seek-victim passed-recent slot-of list-record records live-count listing stores seen-through walk-to row-left row-says row-clock row-count row-list low-bytes
 all-hold = (
   (refl, (refl, (refl, (refl, (refl, (refl, (refl, (refl, (refl, (refl, (refl, (refl, (refl, (refl, (refl, tt))))))))))))))),
   (refl, (refl, (refl, (refl, (refl, (refl, (refl, (refl, (refl, (refl, (refl, tt))))))))))),
@@ -37,6 +38,10 @@ all-hold = (
   (refl, (refl, (refl, (refl, (refl, (refl, (refl, (refl, (refl, (refl, (refl, tt))))))))))),
   (refl, (refl, (refl, (refl, (refl, (refl, (refl, (refl, (refl, (refl, (refl, tt))))))))))),
   (refl, (refl, (refl, (refl, tt)))),
+  (refl, (refl, (refl, (refl, (refl, (refl, (refl, (refl, (refl, (refl, (refl, (refl, (refl, (refl, (refl, tt))))))))))))))),
+  (refl, (refl, (refl, (refl, (refl, (refl, (refl, (refl, (refl, (refl, (refl, (refl, (refl, (refl, (refl, (refl, (refl, (refl, tt)))))))))))))))))),
+  (refl, (refl, (refl, (refl, (refl, (refl, (refl, (refl, (refl, (refl, (refl, (refl, (refl, (refl, (refl, tt))))))))))))))),
+  (refl, (refl, (refl, (refl, (refl, (refl, (refl, (refl, (refl, (refl, (refl, (refl, (refl, (refl, (refl, (refl, (refl, (refl, tt)))))))))))))))))),
 )
 
 -- the rows of wish 6 are of a memory that it speaks of

@@ -68,8 +68,15 @@ module _ (Y : Shape) where
     pub move-if : MayMove Y T v → may-move Y T v ≡ true
     unfolding may-move
     move-if h =
-        rw (lt-ltb (v .from) (length T) (h .from-in), lt-ltb (v .to) (length T) (h .to-in), ne-eqb w 0 (h .occupied), h .sound,
-        eq-eqb (tag w) (v .tag) (h .same-tag), eq-eqb (getD T (v .to) 0) 0 (h .free), eq-eqb (bucket Y (v .to)) far (h .goes))
+        rw (
+          lt-ltb (v .from) (length T) (h .from-in),
+          lt-ltb (v .to) (length T) (h .to-in),
+          ne-eqb w 0 (h .occupied),
+          h .sound,
+          eq-eqb (tag w) (v .tag) (h .same-tag),
+          eq-eqb (getD T (v .to) 0) 0 (h .free),
+          eq-eqb (bucket Y (v .to)) far (h .goes),
+        )
 
     pub may-legal : MayMove Y T v → Legal (Y .layout) T (as-move v)
     may-legal h = record { held = h .occupied; inside = h .to-in; vacant = h .free; goes = h .goes }
@@ -95,5 +102,11 @@ module _ (Y : Shape) where
     pub enter-if : MayEnter Y m x p i → may-enter Y m x p i ≡ true
     unfolding may-enter
     enter-if h =
-        rw (ap there (h .away), lt-ltb p (Y .places) (h .place-in), lt-ltb i (length (m .slots)) (h .slot-in),
-        eq-eqb (animal (m .items) p) 0 (h .vacant), eq-eqb (word m i) 0 (h .free), home-if x (bucket Y i) (h .home))
+        rw (
+          ap there (h .away),
+          lt-ltb p (Y .places) (h .place-in),
+          lt-ltb i (length (m .slots)) (h .slot-in),
+          eq-eqb (animal (m .items) p) 0 (h .vacant),
+          eq-eqb (word m i) 0 (h .free),
+          home-if x (bucket Y i) (h .home),
+        )

@@ -12,6 +12,9 @@ use Rattle.model.proofs.Verdict as verdict
 use Rattle.model.proofs.FreshIffLeft as iff
 use Rattle.model.proofs.Retired as retired
 use Rattle.model.proofs.NoneRetired as dated
+use Rattle.model.proofs.InSteps as steps
+use Rattle.model.proofs.CarriedOut as carried
+use Rattle.model.proofs.PlanRoom as room
 use Rattle.model.proofs.Linked as linked
 use Rattle.model.proofs.Paper as paper
 use Rattle.model.proofs.AsWritten as written
@@ -44,6 +47,12 @@ owed =
       retired-replaced = retired.retired-replaced;
       retired-then-dated = retired.retired-then-dated;
       none-retired = dated.none-retired;
+      step-rule = steps.step-rule;
+      plan-is-sets = steps.plan-is-sets;
+      plan-quiet = steps.plan-quiet;
+      steps-are-set = carried.steps-are-set;
+      plan-room = room.plan-room;
+      others-kept = room.others-kept;
       leaves-lent = linked.leaves-lent four;
       cuts-lent = linked.cuts-lent four;
       fresh-lent = linked.fresh-lent four;

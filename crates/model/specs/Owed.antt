@@ -14,12 +14,13 @@ use Rattle.model.specs.Lent.{after-fresh, lent-after, lent-call, lent-cu
 use Rattle.model.specs.Late.{LateRefused, StampsRise}
 use Rattle.model.specs.Left.{AheadTellsNothing, FreshIffLeft, HeldTells, LeftIs, LeftLeast}
 use Rattle.model.specs.Retired.{NoneRetired, RetiredAt, RetiredHeld, RetiredReads, RetiredReplaced, RetiredThenDated, RetiredUnserved}
+use Rattle.model.specs.InSteps.{OthersKept, PlanIsSets, PlanQuiet, PlanRoom, StepRule, StepsAreSet}
 use Rattle.model.specs.WellFormed.{WellFormed}
 use Rattle.model.specs.AnyTable.{Table, cut-at, leaves}
 use Rattle.model.specs.Demands.{AgeFromIssue, Demand1, Demand2, Demand3, FreshAnywhere, NeverLost, Story, shape-in, table}
 use Rattle.model.specs.Ours.{gate, ours}
 use Rattle.model.specs.declared.Grant.{Grant}
-use Rattle.model.specs.Examples.{AllHold, answers, cuts, edges, examples, late-lists, left-rows, one-hurt, refusals, retired, retired-rows, retired-words, row-edges, row-examples, row-numbers, turns, two-tags}
+use Rattle.model.specs.Examples.{AllHold, answers, cuts, edges, examples, final-stores, late-lists, left-rows, one-hurt, plans, refusals, retired, retired-rows, retired-words, row-edges, row-examples, row-numbers, row-steps, single-moves, turns, two-tags}
 
 pub record Owed : Type 0 where
   -- the order's three demands, of the gate's table; and of wish 13's
@@ -52,6 +53,14 @@ pub record Owed : Type 0 where
   pub retired-replaced : (W : Ways) → RetiredReplaced W (ours W)
   pub retired-then-dated : (W : Ways) → RetiredThenDated W (ours W)
   pub none-retired : (W : Ways) (T : Table) → Demand2 W T → NoneRetired W T
+  -- wish 7: a set in steps. On any memory: when a step is made, what a plan is beside a set, and that a plan that is carried out leaves
+  -- what the set leaves; after any run of finished calls, the fewest moves at the moment of planning, and nobody else's answer changes
+  pub step-rule : (W : Ways) → StepRule W (ours W)
+  pub plan-is-sets : (W : Ways) (m : Mem) (g : Grant) → PlanIsSets W m g
+  pub plan-quiet : (W : Ways) → PlanQuiet (ours W)
+  pub steps-are-set : (W : Ways) → StepsAreSet (ours W)
+  pub plan-room : (W : Ways) → PlanRoom W (ours W)
+  pub others-kept : (W : Ways) → OthersKept W (ours W)
   -- what the code's contracts cite is what the demands speak of
   pub leaves-lent : (m : Mem) (c : Call) → leaves gate m (did c) ≡ lent-after four m c
   pub cuts-lent : (m : Mem) (c : Call) (k : ℕ) → cut-at gate k m (did c) ≡ lent-cut four k m c
@@ -61,6 +70,7 @@ pub record Owed : Type 0 where
   -- the definitions say what the document's examples say, and what its rules say at their edges and at every cut
   pub all-hold : AllHold examples × AllHold refusals × AllHold turns × AllHold edges × AllHold cuts × AllHold late-lists × AllHold row-examples × AllHold row-edges
       × AllHold (left-rows answers) × AllHold (left-rows (row-numbers 0)) × AllHold (retired-rows answers) × AllHold (retired-rows (row-numbers 0)) × AllHold retired-words
+      × AllHold plans × AllHold single-moves × AllHold final-stores × AllHold row-steps
   pub retired-at : RetiredAt four retired 1 0
   pub not-legal : ¬ Legal (shape-of four two-tags .layout) (two-tags .slots) (record { from = 2; to = 8 })
   pub not-well : ¬ WellFormed (shape-of four (one-hurt 3)) (one-hurt 3)
