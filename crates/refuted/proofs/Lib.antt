@@ -1,2 +1,3 @@
 pub mod Blind
 pub mod Refuted
+pub mod Steps

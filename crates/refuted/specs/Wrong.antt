@@ -1,13 +1,13 @@
--- The wrong tables that document 01 names, each a small change of ours; one that clears the source first, and one that stamps the
--- arrival. Assumes nothing.
+-- The wrong tables that document 01 names, each a small change of ours; one that clears the source first, one that stamps the arrival,
+-- and two with wrong steps. Assumes nothing.
 use Prim.Native.Nat.{ℕ}
 use mathlib.Core.List.{List, [], _∷_, _++_}
-use Rattle.model.specs.Choice.{choose}
+use Rattle.model.specs.Choice.{choose, one-of}
 use Rattle.model.specs.Answers.{is, value, Answer, refused, stored}
 use Rattle.model.specs.Memory.{Mem}
 use Rattle.model.specs.Shape.{four, Ways}
 use Rattle.model.specs.Stores.{Block, Store, counted, enter, move, recency, remove, slot-to, stores-of, update}
-use Rattle.model.specs.Calling.{Event, delete, did, evict, find, make-fresh, read, serve, set-animal, write-list}
+use Rattle.model.specs.Calling.{Event, delete, did, evict, find, make-fresh, plan-set, read, serve, set-animal, step-enter, step-move, write-list}
 use Rattle.model.specs.Lent.{event-answer, lent-call}
 use Rattle.model.specs.AnyTable.{Table, Write}
 use Rattle.model.specs.Ours.{our-writes, traced}
@@ -22,6 +22,9 @@ misread f (did (set-animal g)) a = a
 misread f (did (delete x)) a = a
 misread f (did (evict hand)) a = a
 misread f (did (write-list size)) a = a
+misread f (did (plan-set g)) a = a
+misread f (did (step-move g v)) a = a
+misread f (did (step-enter g p i)) a = a
 
 -- the visit count is n, whatever the search did
 abbrev pub miscount : ℕ → Answer → Answer
@@ -117,6 +120,9 @@ arrival-writes m (did (set-animal g)) =
 arrival-writes m (did (delete x)) = our-writes four m (did (delete x))
 arrival-writes m (did (evict hand)) = our-writes four m (did (evict hand))
 arrival-writes m (did (write-list size)) = our-writes four m (did (write-list size))
+arrival-writes m (did (plan-set g)) = our-writes four m (did (plan-set g))
+arrival-writes m (did (step-move g v)) = our-writes four m (did (step-move g v))
+arrival-writes m (did (step-enter g p i)) = our-writes four m (did (step-enter g p i))
 
 abbrev pub stamps-arrival : Table
 stamps-arrival = record { answer = event-answer four; writes = arrival-writes }
@@ -128,3 +134,15 @@ counts n = retold four (λ e. miscount n)
 -- the source is cleared before the destination is written
 abbrev pub source-first : Table
 source-first = built four all-swapped
+
+-- every step that would be made is 12 in its place, and nothing is written
+abbrev pub never-steps : Table
+never-steps =
+    record {
+      answer = λ m e. choose (one-of (value (event-answer four m e) 0) (11 ∷ 12 ∷ [])) (refused 12) (event-answer four m e);
+      writes = λ m e. choose (one-of (value (event-answer four m e) 0) (11 ∷ 12 ∷ [])) [] (our-writes four m e);
+    }
+
+-- a move is said to be made, and nothing is written
+abbrev pub moves-nothing : Table
+moves-nothing = record { answer = event-answer four; writes = λ m e. choose (is 11 (event-answer four m e)) [] (our-writes four m e) }
