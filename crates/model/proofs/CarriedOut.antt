@@ -28,6 +28,7 @@ use Rattle.model.specs.declared.MoveRecord.{MoveRecord}
 use Rattle.model.proofs.ShapeLaws.{Lawful}
 use Rattle.model.proofs.ListLaws.{First, first-is, found, in-range, inside-held, missing, true-false}
 use Rattle.model.proofs.Lent.{Alike, alike-call, fit, law, stores-alike}
+use Rattle.model.proofs.Records.{moves-back}
 use Rattle.model.proofs.Turns.{good-minutes}
 use Rattle.model.proofs.Paths.{Shortest, Untouched}
 use Rattle.model.proofs.Search.{stop-le}
@@ -36,7 +37,7 @@ use Rattle.model.proofs.StepSet.{final-home, found-room}
 use Rattle.model.proofs.MaySteps.{enter-if, move-if}
 use Rattle.model.proofs.MoveKeeps.{away-later, calm-later, sound-later}
 use Rattle.model.proofs.Linked.{leaves-lent}
-use Rattle.model.proofs.InSteps.{AsFound, as-found, moves-of, sets-own}
+use Rattle.model.proofs.InSteps.{AsFound, as-found, sets-own}
 
 -- moves in turn, each on the slots that those before it leave
 abbrev MayMoves : Shape → List ℕ → List MoveRecord → Type 0
@@ -173,7 +174,7 @@ module _ (W : Ways) (m : Mem) (g : Grant) (vs : List MoveRecord) (p i : ℕ) (f 
   plan-shortest = found-room Z L m long y (f .room)
 
   pub plan-moves : as-moves vs ≡ moves-found Z m y
-  plan-moves = ap as-moves (f .moves-are) ∙ moves-of (m .slots) (moves-found Z m y)
+  plan-moves = ap as-moves (f .moves-are) ∙ moves-back (m .slots) (moves-found Z m y)
 
   -- each move may be made in its turn
   moves-may : MayMoves Z (m .slots) vs

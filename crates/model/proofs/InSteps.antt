@@ -1,5 +1,5 @@
 -- Wish 7, on any memory: when a move and the final store are made, and what a plan is beside a set. Assumes nothing.
-use Prim.Native.Nat.{ℕ, suc, _+_, _<_}
+use Prim.Native.Nat.{ℕ, _+_, _<_}
 use native.Mathlib.Omega.{arith}
 use mathlib.Core.Path.{_≡_, refl, sym, ap, _∙_, subst}
 use mathlib.Core.Logic.{_≢_, _↔_, ⊎-elim}
@@ -13,7 +13,7 @@ use Rattle.model.specs.Choice.{choose}
 use Rattle.model.specs.Memory.{Mem}
 use Rattle.model.specs.Shape.{Shape, Ways, right-lengths, shape-of}
 use Rattle.model.specs.Stores.{stores, wholes}
-use Rattle.model.specs.Moves.{Move, as-move, as-moves, records-of}
+use Rattle.model.specs.Moves.{as-move, as-moves, records-of}
 use Rattle.model.specs.Calling.{plan-set, set-animal, step-enter, step-move}
 use Rattle.model.specs.Answers.{Answer, entry-made, move-made, planned, refused, stored}
 use Rattle.model.specs.Age.{bad-grant}
@@ -26,6 +26,7 @@ use Rattle.model.specs.declared.Grant.{Grant}
 use Rattle.model.specs.declared.MoveRecord.{MoveRecord}
 use Rattle.model.proofs.ListLaws.{bool, true-false}
 use Rattle.model.proofs.Turns.{in-its-turn, in-turn, sorted, turned}
+use Rattle.model.proofs.Records.{length-records, moves-back}
 use Rattle.model.proofs.Demand1.{is-refusal}
 use Rattle.model.proofs.Linked.{leaves-lent}
 use Rattle.model.proofs.MaySteps.{enter-if, enter-only, move-if, move-only}
@@ -122,15 +123,6 @@ Alike o o′ = (n : ℕ) → (o .answer ≡ refused n) ↔ (o′ .answer ≡ ref
 both-alike : (b : Bool) (r o o′ : Outcome) → Alike o o′ → Alike (choose b r o) (choose b r o′)
 both-alike true r o o′ h n = (λ e. e, λ e. e)
 both-alike false r o o′ h n = h n
-
--- the moves of records are the moves
-pub moves-of : (T : List ℕ) (ms : List Move) → as-moves (records-of T ms) ≡ ms
-moves-of T [] = refl
-moves-of T (v ∷ ms) = ap (λ l. v ∷ l) (moves-of T ms)
-
-pub records-count : (T : List ℕ) (ms : List Move) → length (records-of T ms) ≡ length ms
-records-count T [] = refl
-records-count T (v ∷ ms) = ap suc (records-count T ms)
 
 module _ (W : Ways) (m : Mem) (g : Grant) where
   abbrev Z : Shape
@@ -237,8 +229,8 @@ module _ (W : Ways) (m : Mem) (g : Grant) where
   pub sets-own : (vs : List MoveRecord) (p i : ℕ) → AsFound vs p i → SetsOwn W m g vs p i
   sets-own vs p i f =
       let s = set-there (f .turn) (f .away) p (f .place-is) (f .undamaged) (ne-eqb (stopped Z m y) (length (visited Z m y)) (f .room)) in
-      let same : as-moves vs ≡ moves-found Z m y = ap as-moves (f .moves-are) ∙ moves-of (m .slots) (moves-found Z m y) in
-      let count : length (moves-found Z m y) ≡ length vs = sym (records-count (m .slots) (moves-found Z m y)) ∙ ap length (sym (f .moves-are)) in
+      let same : as-moves vs ≡ moves-found Z m y = ap as-moves (f .moves-are) ∙ moves-back (m .slots) (moves-found Z m y) in
+      let count : length (moves-found Z m y) ≡ length vs = sym (length-records (m .slots) (moves-found Z m y)) ∙ ap length (sym (f .moves-are)) in
       record {
         away = f .away;
         visits = stopped Z m y + 1;

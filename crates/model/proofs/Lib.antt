@@ -13,6 +13,7 @@ pub mod Trace
 pub mod Lent
 pub mod Turns
 pub mod Late
+pub mod Records
 pub mod Paper
 pub mod Said
 -- Pillar ROOM: legal moves and the visit list; why the search's moves are the fewest

@@ -5,14 +5,9 @@ use mathlib.Core.Option.{Option, Option·getD}
 use mathlib.Core.List.{List, [], _∷_}
 use lib.ListN.{getD, drop}
 use lib.IntN.{ℤ, pos}
-use Rattle.model.specs.Answers.{Answer, Paper, absent, ahead, at-place, deleted, evicted, fresh, listed, old, paper, refused, started, stored, planned, move-made, entry-made, record-numbers, moves-from}
-use Rattle.model.specs.declared.MoveRecord.{MoveRecord}
+use Rattle.model.specs.Answers.{Answer, Paper, absent, ahead, at-place, deleted, evicted, fresh, listed, old, paper, refused, started, stored, planned, move-made, entry-made, moves-from}
+use Rattle.model.proofs.Records.{numbers-back}
 use mathlib.Core.Logic.{_≢_}
-
--- a plan's moves are read back off their numbers
-pub moves-back : (vs : List MoveRecord) → moves-from (record-numbers vs) ≡ vs
-moves-back [] = refl
-moves-back (v ∷ vs) = ap (λ vs. v ∷ vs) (moves-back vs)
 
 -- the answer is read back off them
 back-from : Option ℤ → ℕ → List ℕ → Answer
@@ -50,7 +45,7 @@ read-back (evicted x n h) = refl
 read-back started = refl
 read-back (listed n bs) = refl
 read-back (at-place p) = refl
-read-back (planned vs p i) = ap (λ vs. planned vs p i) (moves-back vs)
+read-back (planned vs p i) = ap (λ vs. planned vs p i) (numbers-back vs)
 read-back move-made = refl
 read-back entry-made = refl
 

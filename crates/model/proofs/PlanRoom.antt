@@ -29,12 +29,13 @@ use Rattle.model.specs.declared.Grant.{Grant}
 use Rattle.model.specs.declared.MoveRecord.{MoveRecord}
 use Rattle.model.proofs.ListLaws.{true-false}
 use Rattle.model.proofs.Lent.{alike-reading, alike-shape, well-alike}
+use Rattle.model.proofs.Records.{length-records}
 use Rattle.model.proofs.Search.{length-climb}
 use Rattle.model.proofs.ReadWalk.{held-walk, read-walk}
 use Rattle.model.proofs.Demand1.{is-refusal, judged}
 use Rattle.model.proofs.OnWellFormed.{lawY, seen-on, still-right, well-on}
 use Rattle.model.proofs.Demands.{our-room, same-story, well-story}
-use Rattle.model.proofs.InSteps.{as-found, plan-is-sets, records-count}
+use Rattle.model.proofs.InSteps.{as-found, plan-is-sets}
 use Rattle.model.proofs.CarriedOut.{plan-final, plan-moves, plan-shortest}
 
 module _ (W : Ways) (s : Story W) where
@@ -65,7 +66,7 @@ module _ (W : Ways) (s : Story W) where
     few-are =
         let f = as-found W m g vs p i e in
         let Y = shape-of W m in
-        rw (f .moves-are, records-count (m .slots) (moves-found Y m (g .animal)))
+        rw (f .moves-are, length-records (m .slots) (moves-found Y m (g .animal)))
         (length-climb (Y .layout) (visited Y m (g .animal)) 2 (W .reach) (stopped Y m (g .animal))
         (free-slot (Y .layout) (m .slots) (stop-bucket (Y .layout) (m .slots) (pair Y (g .animal)) (W .reach))))
 

@@ -10,24 +10,17 @@ use lib.Seq.{append-snoc, set-at}
 use borrow.Author.Tests.{lt-ltb, le-ltb}
 use Rattle.model.specs.Memory.{tag}
 use Rattle.model.specs.Shape.{Layout, Ways, four}
-use Rattle.model.specs.Moves.{Move, as-moves, recorded, records-of}
+use Rattle.model.specs.Moves.{Move, no-move, recorded, records-of}
+use Rattle.model.proofs.Records.{length-records}
 use Rattle.model.specs.Visits.{climb, lands}
 use Rattle.model.specs.declared.MoveRecord.{MoveRecord}
 use Rattle.paths.specs.declared.Entry.{Entry}
 use Rattle.paths.specs.declared.Ending.the-variants.{Room}
 use Rattle.paths.specs.declared.Found.{Found}
 use Rattle.paths.specs.Buckets.{layout-of}
-use Rattle.paths.specs.Path.{BackFrom, buckets-of, no-move, room-from}
+use Rattle.paths.specs.Path.{BackFrom, buckets-of, room-from}
 
--- the records of moves: how many, the moves that they came from, and one list after the other
-pub length-records : (T : List ℕ) (ms : List Move) → length (records-of T ms) ≡ length ms
-length-records T [] = refl
-length-records T (m ∷ ms) = ap suc (length-records T ms)
-
-pub moves-back : (T : List ℕ) (ms : List Move) → as-moves (records-of T ms) ≡ ms
-moves-back T [] = refl
-moves-back T (m ∷ ms) = ap (λ (l : List Move). m ∷ l) (moves-back T ms)
-
+-- the records of moves, one list after the other
 records-append : (T : List ℕ) (xs ys : List Move) → records-of T (xs ++ ys) ≡ records-of T xs ++ records-of T ys
 records-append T [] ys = refl
 records-append T (x ∷ xs) ys = ap (λ (l : List MoveRecord). recorded T x ∷ l) (records-append T xs ys)

@@ -3,7 +3,7 @@ use Prim.Native.Nat.{ℕ, _+_, _-_, _*_, _<_, _≤_}
 use mathlib.Core.List.{List, _++_, map}
 use lib.ListN.{length, getD, replicate}
 use Rattle.model.specs.Shape.{Ways}
-use Rattle.model.specs.Moves.{Move, records-of}
+use Rattle.model.specs.Moves.{Move, no-move, records-of}
 use Rattle.model.specs.Visits.{climb, lands}
 use Rattle.model.specs.declared.MoveRecord.{MoveRecord}
 use Rattle.paths.specs.declared.Entry.{Entry}
@@ -13,9 +13,6 @@ use Rattle.paths.specs.declared.Found.{Found}
 use Rattle.paths.specs.Buckets.{layout-of}
 
 -- the four records of a path: its moves in the slots T, and then empty ones
-abbrev pub no-move : MoveRecord
-no-move = record { from = 0; tag = 0; to = 0 }
-
 abbrev pub path-records : List ℕ → List Move → List MoveRecord
 path-records T ms = records-of T ms ++ replicate (4 - length ms) no-move
 

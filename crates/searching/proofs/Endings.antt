@@ -9,16 +9,16 @@ use lib.Seq.{take-at}
 use borrow.Author.Tests.{eqb-false}
 use Rattle.model.specs.Choice.{choose}
 use Rattle.model.specs.Shape.{Ways}
-use Rattle.model.specs.Moves.{Move, as-moves, records-of}
+use Rattle.model.specs.Moves.{Move, as-moves, no-move, records-of}
 use Rattle.model.specs.Visits.{free-slot, lands, search-moves, stop, stop-slot}
 use Rattle.model.proofs.Search.{length-climb, stop-le}
 use Rattle.model.proofs.ListLaws.{bool}
 use Rattle.paths.specs.declared.Ending.the-variants.{Damaged, Nowhere, Room}
 use Rattle.paths.specs.declared.Found.{Found}
 use Rattle.paths.specs.Buckets.{layout-of}
-use Rattle.paths.specs.Path.{no-move, no-room, path-records}
+use Rattle.paths.specs.Path.{no-room, path-records}
 use Rattle.paths.proofs.Visits.{visits-of}
-use Rattle.paths.proofs.Back.{length-records, moves-back}
+use Rattle.model.proofs.Records.{length-records, moves-back}
 use Rattle.searching.specs.Search.{FoundIs, at-end, meets-damage-in, room-there}
 
 module _ (W : Ways) (n m : ℕ) (T : List ℕ) (b c : ℕ) where

@@ -4,7 +4,7 @@ use native.Mathlib.Omega.{arith}
 use mathlib.Core.List.{List, [], _∷_, _++_}
 use lib.ListN.{length, getD, replicate, length-set}
 use Rattle.model.specs.Shape.{Layout, Ways}
-use Rattle.model.specs.Moves.{Move, Run, moved, records-of}
+use Rattle.model.specs.Moves.{Move, Run, moved, no-move, records-of}
 use Rattle.model.specs.Visits.{search-moves}
 use Rattle.model.specs.declared.MoveRecord.{MoveRecord}
 use Rattle.model.proofs.Hash.{other-lt}
@@ -12,7 +12,6 @@ use Rattle.model.proofs.ListLaws.{inside-held}
 use Rattle.model.proofs.Search.{search-some}
 use Rattle.paths.specs.declared.Found.{Found}
 use Rattle.paths.specs.Buckets.{layout-of}
-use Rattle.paths.specs.Path.{no-move}
 use Rattle.paths.proofs.Visits.{home-in}
 use Rattle.searching.specs.Search.{Asked}
 use Rattle.searching.proofs.Endings.{RoomFound}

@@ -19,11 +19,11 @@ use Rattle.moves.specs.Moves.{MovesIn}
 use Rattle.blocks.specs.Made.{Made}
 use Rattle.blocks.proofs.Laws.{made-append}
 use Rattle.blocks.proofs.Budget.{does-as, does-made, does-one, does-refuse, stores-append}
-use Rattle.setting.specs.Entering.{Enterable, entering, entering-by}
+use Rattle.vacancy.specs.Room.{Enterable, entering, entering-by}
 use Rattle.model.specs.declared.Grant.{Grant}
 use Rattle.hashing.specs.declared.Homes.{Homes}
-use Rattle.setting.specs.declared.Entering.the-variants as entry
-use Rattle.setting.specs.declared.Room.{Room}
+use Rattle.vacancy.specs.declared.Entering.the-variants as entry
+use Rattle.vacancy.specs.declared.Room.{Room}
 
 -- what the steps of the do take
 module _ {s c i : List ℕ} {h : Homes} {r : Room} {shift visits : ℕ} (a : Enterable (mem s c i) h r shift) (e : r .told ≡ entry.Enters visits) where

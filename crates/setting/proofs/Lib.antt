@@ -1,4 +1,3 @@
-pub mod Looks
 pub mod Enters
 pub mod Setting
 pub mod Decides

@@ -25,7 +25,7 @@ use Rattle.blocks.proofs.Budget.{Few, did-all, does-as, does-refuse, few-asked,
 use Rattle.looking.specs.Look.{LooksUp, Passed, early}
 use Rattle.looking.proofs.Early.{due-one, due-three, due-two, early-outcome}
 use Rattle.looking.proofs.Looking.{look-holds, look-lacks, look-refused}
-use Rattle.setting.specs.Entering.{Homed, entering-new}
+use Rattle.vacancy.specs.Room.{Homed, entering-new}
 use Rattle.model.specs.declared.Grant.{Grant}
 use Rattle.looking.specs.declared.Looked.{Looked}
 use Rattle.looking.specs.declared.Look.the-variants as look

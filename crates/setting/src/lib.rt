@@ -11,69 +11,14 @@ ghost use Rattle.model.specs.Calls.{set-held, updated};
 ghost use Rattle.model.specs.Said.{said-setting};
 ghost use Rattle.model.specs.Promised.{CutAs, Does, WholeAs};
 ghost use Rattle.looking.specs.Look.{LooksUp};
-ghost use Rattle.setting.specs.Entering.{Enterable, Homed, RoomIs, entering, entering-new};
+ghost use Rattle.vacancy.specs.Room.{Enterable, Homed, entering, entering-new};
 use hashing::Homes;
 use looking::Look;
 use looking::Looked;
 use model::Grant;
 use model::Setting;
-use paths::Ending;
-use paths::Found;
-use places::Place;
-
-// What set of an absent animal is to do: refuse, or enter it into the vacant place behind the moves that were found.
-pub enum Entering {
-    Refused(u32),
-    Enters { visits: usize },
-}
-
-pub struct Room {
-    pub told: Entering,
-    pub place: u32,
-    pub found: Found,
-}
-
-// The look: the lowest vacant place, then the search.
-fn room_for(slots: &[u32], counters: &[u32], items: &[u64], g: Grant, homes: Homes) -> Room
-    requires { ⌜ Homed four (mem (now slots) (now counters) (now items)) (g .animal) homes ⌝ }
-    ensures { λ r. ⌜ RoomIs four (mem (now (slots .entry)) (now (counters .entry)) (now (items .entry))) g homes r ⌝ }
-{
-    let m = items.len() / 4;
-    let n = (slots.len() / 4) as u32;
-    let vacant = places::vacant_place(items, m);
-    match vacant {
-        Place::Nowhere => {
-            let found = paths::nothing(Ending::Nowhere);
-            Room {
-                told: Entering::Refused(5),
-                place: 0,
-                found,
-            }
-        }
-        Place::At(p) => {
-            let found = searching::search(slots, n, m as u32, homes.first, homes.second);
-            let ending = found.ending;
-            let place = p as u32;
-            match ending {
-                Ending::Damaged => Room {
-                    told: Entering::Refused(4),
-                    place,
-                    found,
-                },
-                Ending::Nowhere => Room {
-                    told: Entering::Refused(6),
-                    place,
-                    found,
-                },
-                Ending::Room { visits } => Room {
-                    told: Entering::Enters { visits },
-                    place,
-                    found,
-                },
-            }
-        }
-    }
-}
+use vacancy::Entering;
+use vacancy::Room;
 
 // The do: the moves, then the new entry. It knows the ways by a shift only. Requires what the look has shown.
 fn enter_at(
@@ -140,7 +85,7 @@ fn enter_new(
         (mem (now (slots .entry)) (now (counters .entry)) (now (items .entry)))
         (mem (now (slots .exit)) (now (counters .exit)) (now (items .exit))) (said-setting r) ⌝ }
 {
-    let room = room_for(slots, counters, items, g, homes);
+    let room = vacancy::room_for(slots, counters, items, g, homes);
     enter_at(slots, counters, items, g, homes, room, 2, k)
 }
 

@@ -1,9 +1,9 @@
--- `setting::room_for` meets its contract. Assumes nothing.
+-- `vacancy::room_for` meets its contract. Assumes nothing.
 use borrow.Author.Needs.{needs}
-use Rattle.setting.proofs.room_for.Statement.{statement}
-use Rattle.setting.proofs.room_for.Tie as tie
+use Rattle.vacancy.proofs.room_for.Statement.{statement}
+use Rattle.vacancy.proofs.room_for.Tie as tie
 use Rattle.looking.proofs.HomesLie.{buckets-fit, places-fit}
-use Rattle.setting.proofs.Looks.{places-are, asked-is, room-full, room-damaged, room-nowhere, room-there, vacant-fits}
+use Rattle.vacancy.proofs.Looks.{places-are, asked-is, room-full, room-damaged, room-nowhere, room-there, vacant-fits}
 
 cast-n : tie.Need-cast-n
 cast-n c = record { fits = search buckets-fit }

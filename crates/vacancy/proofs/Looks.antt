@@ -1,35 +1,49 @@
--- Set's look at an absent animal: the lowest vacant place, then the search; a law a way out. Assumes nothing.
-use Prim.Native.Nat.{ℕ, _*_, _<_, _≤_, _/_, _^_}
+-- Where an absent animal would go: the lowest vacant place, then the search; a law a way out. Assumes nothing.
+use Prim.Native.Nat.{ℕ, _-_, _*_, _<_, _≤_, _/_, _^_}
 use native.Mathlib.Nat.{mul-le-mul-right}
 use native.Mathlib.Omega.{arith}
 use mathlib.Core.Path.{_≡_, sym, ap, _∙_, subst, ap₂}
 use mathlib.Core.Bool.{Bool}
 use mathlib.Core.Option.{some}
-use lib.ListN.{length, take}
+use mathlib.Core.List.{List, _++_}
+use lib.ListN.{length, replicate, take}
 use lib.Dec.{eqb}
 use Rattle.model.specs.Choice.{choose}
 use Rattle.model.specs.Memory.{Mem}
 use Rattle.model.specs.Shape.{Shape, Ways, second-of, shape-of}
-use Rattle.model.specs.Moves.{as-moves}
-use Rattle.model.specs.Calls.{Outcome, enter-at, entered, moves-found, refuse, stopped, vacant-place, visited}
+use Rattle.model.specs.Moves.{Move, as-moves, no-move, records-of}
+use Rattle.model.specs.Answers.{planned}
+use Rattle.model.specs.Calls.{Outcome, enter-at, entered, final-slot, moves-found, plan-new, refuse, stopped, tell, vacant-place, visited}
+use Rattle.model.specs.Said.{plan-of}
 use Rattle.model.proofs.Hash.{size-most}
 use Rattle.model.proofs.Lent.{fit, law}
+use Rattle.model.proofs.Records.{length-records, numbers-back}
+use Rattle.paths.specs.Path.{path-records}
 use Rattle.places.specs.Walks.{place-found}
 use Rattle.places.proofs.Found.{vacant-within}
 use Rattle.searching.specs.Search.{Asked, FoundIs}
 use Rattle.searching.proofs.Endings.{RoomFound, damaged-found, nowhere-found, room-found}
 use Rattle.searching.proofs.Inside.{sources-in}
 use Rattle.moves.specs.Moves.{MovesIn}
-use Rattle.setting.specs.Entering.{Enterable, Homed, RoomIs, entering-new}
+use Rattle.vacancy.specs.Room.{Enterable, Homed, RoomIs, entering-new, planning-new}
 use Rattle.model.specs.declared.Grant.{Grant}
+use Rattle.model.specs.declared.Plan.{Plan}
+use Rattle.model.specs.declared.Planning.the-variants as planning
 use Rattle.hashing.specs.declared.Homes.{Homes}
 use Rattle.paths.specs.declared.Found.{Found}
 use Rattle.paths.specs.declared.Ending.the-variants as ending
 use Rattle.places.specs.declared.Place.{Place}
 use Rattle.places.specs.declared.Place.the-variants as place
-use Rattle.setting.specs.declared.Entering.{Entering}
-use Rattle.setting.specs.declared.Entering.the-variants as entry
-use Rattle.setting.specs.declared.Room.{Room}
+use Rattle.vacancy.specs.declared.Entering.{Entering}
+use Rattle.vacancy.specs.declared.Entering.the-variants as entry
+use Rattle.vacancy.specs.declared.Room.{Room}
+
+-- a plan in the code's words: its moves behind each other, and empty ones to fill the four
+plan-found : (T : List ℕ) (ms : List Move) (p i : ℕ)
+    → plan-of (planned (records-of T ms) p i) ≡ record { told = planning.Planned; moves = path-records T ms; count = length ms; place = p; slot = i }
+plan-found T ms p i =
+    ap (λ vs. record { told = planning.Planned; moves = vs ++ replicate (4 - length vs) no-move; count = length vs; place = p; slot = i }) (numbers-back (records-of T ms))
+    ∙ ap (λ n. record { told = planning.Planned; moves = records-of T ms ++ replicate (4 - n) no-move; count = n; place = p; slot = i }) (length-records T ms)
 
 module _ (W : Ways) (m : Mem) (x : ℕ) {h : Homes} (a : Homed W m x h) where
   -- what the search takes, and the walk over the places
@@ -75,12 +89,20 @@ module _ (W : Ways) (m : Mem) (g : Grant) {h : Homes} (a : Homed W m (g .animal)
 
   -- no place is vacant
   pub room-full : y ≡ place.Nowhere → (f : Found) → RoomIs W m g h (room (entry.Refused 5) 0 f)
-  room-full e f = record { comes = ap (enter-at Y m g) (sym (ap place-found e) ∙ v); able = λ s l z. able 0 (omega arith) s (λ v n. absurd (refuses n)) }
+  room-full e f =
+      record {
+        comes = ap (enter-at Y m g) (sym (ap place-found e) ∙ v);
+        plans = ap (λ o. plan-of (plan-new Y m (g .animal) o .answer)) (sym (ap place-found e) ∙ v);
+        able = λ s l z. able 0 (omega arith) s (λ v n. absurd (refuses n));
+      }
 
   -- place p is, and r is what the search from there found
   module _ {p : ℕ} (e : y ≡ place.At p) {r : Found} (f : FoundIs W (length (m .slots) / W .ways) (length (m .items) / 4) (m .slots) (h .first) (h .second) r) where
     into : {o : Outcome} → o ≡ enter-at Y m g (some p) → o ≡ entering-new W m g
     into q = q ∙ ap (enter-at Y m g) (sym (ap place-found e) ∙ v)
+
+    as-plan : {b : Plan} → b ≡ plan-of (plan-new Y m (g .animal) (some p) .answer) → b ≡ plan-of (planning-new W m (g .animal) .answer)
+    as-plan q = q ∙ ap (λ o. plan-of (plan-new Y m (g .animal) o .answer)) (sym (ap place-found e) ∙ v)
 
     own : FoundIs W (length (m .slots) / W .ways) (length (m .items) / 4) (m .slots) (Y .first-of (g .animal)) (second-of Y (g .animal)) r
     own =
@@ -90,10 +112,14 @@ module _ (W : Ways) (m : Mem) (g : Grant) {h : Homes} (a : Homed W m (g .animal)
     abbrev at-end : Bool
     at-end = eqb (stopped Y m (g .animal)) (length (visited Y m (g .animal)))
 
+    abbrev found-plan : Outcome
+    found-plan = tell (planned (records-of (m .slots) (moves-found Y m (g .animal))) p (final-slot Y m (g .animal)))
+
     pub room-damaged : r .ending ≡ ending.Damaged → RoomIs W m g h (room (entry.Refused 4) p r)
     room-damaged q =
         record {
           comes = into (sym (ap (λ b. choose b (refuse 4) (choose at-end (refuse 6) (entered Y m g p))) (damaged-found own q)));
+          plans = as-plan (sym (ap (λ b. plan-of (choose b (refuse 4) (choose at-end (refuse 6) found-plan) .answer)) (damaged-found own q)));
           able = λ s l z. able p (low p e) s (λ v n. absurd (refuses n));
         }
 
@@ -102,6 +128,7 @@ module _ (W : Ways) (m : Mem) (g : Grant) {h : Homes} (a : Homed W m (g .animal)
         let n = nowhere-found own q in
         record {
           comes = into (sym (ap₂ (λ (b c : Bool). choose b (refuse 4) (choose c (refuse 6) (entered Y m g p))) (n .0) (n .1)));
+          plans = as-plan (sym (ap₂ (λ (b c : Bool). plan-of (choose b (refuse 4) (choose c (refuse 6) found-plan) .answer)) (n .0) (n .1)));
           able = λ s l z. able p (low p e) s (λ v n. absurd (refuses n));
         }
 
@@ -112,6 +139,8 @@ module _ (W : Ways) (m : Mem) (g : Grant) {h : Homes} (a : Homed W m (g .animal)
         record {
           comes = into (sym (ap₂ (λ (b c : Bool). choose b (refuse 4) (choose c (refuse 6) (entered Y m g p))) (t .undamaged) (t .not-at-end)
               ∙ rw (moves, t .visits-are, t .count-is, t .slot-is, a .homes-are .counter-is, a .homes-are .tag-is)));
+          plans = as-plan (sym (ap₂ (λ (b c : Bool). plan-of (choose b (refuse 4) (choose c (refuse 6) found-plan) .answer)) (t .undamaged) (t .not-at-end)
+              ∙ plan-found (m .slots) (moves-found Y m (g .animal)) p (final-slot Y m (g .animal)) ∙ rw (t .moves-are, t .count-is, t .slot-is)));
           able = λ s l z. able p (low p e) s (λ v n. moves-in t s l z);
         }
       where
