@@ -1,4 +1,5 @@
 pub mod Early
+pub mod Due
 pub mod HomesLie
 pub mod OwnWords
 pub mod Looking

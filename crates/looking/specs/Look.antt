@@ -42,6 +42,12 @@ module _ (W : Ways) where
     pub second-in : r .second * W .ways + W .ways ≤ length (m .slots)
     pub counter-in : r .counter < length (m .counters)
 
+  -- refusals 1, 2, 3, 8 and 4 in their turn, as one number; 0 if none is due
+  abbrev pub due : Mem → ℕ → Bool → ℕ
+  due m x bad =
+      choose (right-lengths W m)
+      (choose (eqb x 0) 2 (choose bad 3 (choose (busy (shape-of W m) m x) 8 (choose (home-damage (shape-of W m) m x) 4 0)))) 1
+
   -- the words of the animal's home slots, and the word of its hit, 0 if it has none
   abbrev pub own-words : Mem → ℕ → List ℕ
   own-words m x = home-words (W .ways) (m .slots) (shape-of W m .first-of x) (second-of (shape-of W m) x)

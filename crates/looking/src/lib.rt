@@ -8,7 +8,7 @@ ghost use mathlib.Core.Bool.{true};
 ghost use Rattle.model.specs.Choice.{choose, first, range};
 ghost use Rattle.model.specs.Memory.{mem};
 ghost use Rattle.model.specs.Shape.{four, good-lengths, right-lengths};
-ghost use Rattle.looking.specs.Look.{early, HomesIn, LooksUp, slot-found, slot-or};
+ghost use Rattle.looking.specs.Look.{due, early, HomesIn, LooksUp, slot-found, slot-or};
 use hashing::Homes;
 
 // Refusals 1, 2 and 3, in this order; 0 if none is given.
@@ -44,6 +44,32 @@ pub fn is_odd(counters: &[u32], c: u32) -> bool
     ensures { λ r. ⌜ r ≡ eqb (getD (now (counters .entry)) c 0 % 2) 1 ⌝ }
 {
     counters[c as usize] % 2 == 1
+}
+
+// Refusals 1, 2, 3, 8 and 4, in this order; 0 if none is given.
+pub fn refused_first(
+    slots: &[u32],
+    counters: &[u32],
+    items: &[u64],
+    animal: u64,
+    bad: bool,
+) -> u32
+    ensures { λ r. ⌜ r ≡ due four (mem (now (slots .entry)) (now (counters .entry)) (now (items .entry))) animal bad ⌝ }
+{
+    let no = refused_early(slots.len(), counters.len(), items.len(), animal, bad);
+    if no != 0 {
+        return no;
+    }
+    let homes = homes_in(slots, counters, items, animal);
+    if is_odd(counters, homes.counter) {
+        return 8;
+    }
+    let e = home_words::home_words_of(slots, homes.first, homes.second);
+    let m = (items.len() / 4) as u32;
+    if home_words::any_damaged(e, m) {
+        return 4;
+    }
+    0
 }
 
 // What set and delete look up: a refusal, nothing, or the word of the hit.
