@@ -47,13 +47,7 @@ pub fn is_odd(counters: &[u32], c: u32) -> bool
 }
 
 // Refusals 1, 2, 3, 8 and 4, in this order; 0 if none is given.
-pub fn refused_first(
-    slots: &[u32],
-    counters: &[u32],
-    items: &[u64],
-    animal: u64,
-    bad: bool,
-) -> u32
+pub fn refused_first(slots: &[u32], counters: &[u32], items: &[u64], animal: u64, bad: bool) -> u32
     ensures { λ r. ⌜ r ≡ due four (mem (now (slots .entry)) (now (counters .entry)) (now (items .entry))) animal bad ⌝ }
 {
     let no = refused_early(slots.len(), counters.len(), items.len(), animal, bad);

@@ -13,7 +13,7 @@ ghost use Rattle.moves.specs.Moves.{Movable, MovesIn};
 use model::MoveRecord;
 
 // One move, of the word that stands in the source now, under the counter of that entry.
-fn move_one(
+pub fn move_one(
     slots: &mut [u32],
     counters: &mut [u32],
     n: u32,

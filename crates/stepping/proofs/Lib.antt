@@ -1,0 +1,4 @@
+pub mod Moving
+pub mod Planned
+pub mod Entering
+pub mod Decides
