@@ -1,13 +1,19 @@
 -- The C clothes of an answer: document 01's number and values of it, as the fields of a reply. Assumes nothing.
 use Prim.Native.Nat.{ℕ}
 use mathlib.Core.Option.{Option·getD}
+use lib.ListN.{length}
 use lib.IntN.{ℤ, pos}
 use Rattle.model.specs.Choice.{choose}
-use Rattle.model.specs.Answers.{Answer, hand-back, is, paper, value}
+use Rattle.model.specs.Moves.{four-records}
+use Rattle.model.specs.Answers.{Answer, hand-back, is, moves-told, paper, value}
+use Rattle.model.specs.declared.Plan.{Plan}
+use Rattle.model.specs.declared.Planning.{Planning}
+use Rattle.model.specs.declared.Planning.the-variants as planning
 use Rattle.judgement.specs.Verdict.{Verdict, sound, broken}
 use Rattle.clothes.specs.declared.BoughladderReading.{BoughladderReading}
 use Rattle.clothes.specs.declared.BoughladderFinding.{BoughladderFinding}
 use Rattle.clothes.specs.declared.BoughladderSetting.{BoughladderSetting}
+use Rattle.clothes.specs.declared.BoughladderPlan.{BoughladderPlan}
 use Rattle.clothes.specs.declared.BoughladderEvicting.{BoughladderEvicting}
 use Rattle.clothes.specs.declared.BoughladderListing.{BoughladderListing}
 use Rattle.clothes.specs.declared.BoughladderJudgement.{BoughladderJudgement}
@@ -34,6 +40,25 @@ finding-clothes a = record { refusal = number a; kind = value a 0; place = value
 -- set
 abbrev pub setting-clothes : Answer → BoughladderSetting
 setting-clothes a = record { refusal = number a; visits = value a 1; moves = value a 2 }
+
+-- plan; and a plan of the code in its clothes
+abbrev pub plan-clothes : Answer → BoughladderPlan
+plan-clothes a =
+    record {
+      refusal = number a;
+      count = length (moves-told a);
+      place = value a 1;
+      slot = value a 2;
+      moves = four-records (moves-told a);
+    }
+
+abbrev pub plan-refusal : Planning → ℕ
+plan-refusal planning.Planned = 0
+plan-refusal (planning.Refused n) = n
+
+abbrev pub plan-dressed : Plan → BoughladderPlan
+plan-dressed b =
+    record { refusal = plan-refusal (b .told); count = b .count; place = b .place; slot = b .slot; moves = b .moves }
 
 -- evict, with the hand h that comes back; and with the hand that was passed in
 abbrev pub turned-clothes : ℕ → Answer → BoughladderEvicting

@@ -2,17 +2,21 @@
 ghost use mathlib.Core.Path.{_≡_};
 ghost use mathlib.Core.List.{List};
 ghost use Prim.Native.Nat.{ℕ, _<_};
-ghost use Rattle.model.specs.Said.{said-reading, said-finding, said-setting, said-deleting, said-evicting, said-listing, said-starting};
+ghost use Rattle.model.specs.Said.{said-reading, said-finding, said-setting, said-deleting, said-evicting, said-listing, said-starting, said-move, said-entry};
 ghost use Rattle.judgement.specs.Said.{said};
-ghost use Rattle.clothes.specs.Clothes.{number, reading-clothes, finding-clothes, setting-clothes, turned-clothes, listing-clothes, judgement-clothes};
+ghost use Rattle.clothes.specs.Clothes.{number, reading-clothes, finding-clothes, setting-clothes, plan-dressed, plan-refusal, turned-clothes, listing-clothes, judgement-clothes};
 use judgement::Judgement;
 use model::Deleting;
 use model::Evicting;
 use model::Finding;
 use model::Listing;
+use model::MoveRecord;
+use model::Plan;
+use model::Planning;
 use model::Reading;
 use model::Setting;
 use model::Starting;
+use model::Stepping;
 
 // The replies. In each, `refusal` is document 01's number, 0 for success; what a call does not tell is 0.
 
@@ -47,6 +51,16 @@ pub struct BoughladderEvicting {
     pub victim: u64,
     pub looked: usize,
     pub hand: usize,
+}
+
+// Plan: the first `count` of the moves, in the order of making, and zeros behind them.
+#[repr(C)]
+pub struct BoughladderPlan {
+    pub refusal: u32,
+    pub count: usize,
+    pub place: usize,
+    pub slot: usize,
+    pub moves: [MoveRecord; 4],
 }
 
 #[repr(C)]
@@ -137,6 +151,40 @@ pub fn dress_setting(told: Setting) -> BoughladderSetting
             visits: 0,
             moves: 0,
         },
+    }
+}
+
+fn plan_refusal(told: Planning) -> u32
+    ensures { λ r. ⌜ r ≡ plan-refusal told ⌝ }
+{
+    match told {
+        Planning::Planned => 0,
+        Planning::Refused(n) => n,
+    }
+}
+
+pub fn dress_plan(plan: Plan) -> BoughladderPlan
+    ensures { λ r. ⌜ r ≡ plan-dressed plan ⌝ }
+{
+    let told = plan.told;
+    let refusal = plan_refusal(told);
+    let moves = plan.moves;
+    BoughladderPlan {
+        refusal,
+        count: plan.count,
+        place: plan.place,
+        slot: plan.slot,
+        moves,
+    }
+}
+
+// A step, be it a move or the final store.
+pub fn dress_stepping(told: Stepping) -> u32
+    ensures { λ r. ⌜ (r ≡ number (said-move told)) × (r ≡ number (said-entry told)) ⌝ }
+{
+    match told {
+        Stepping::Made => 0,
+        Stepping::Refused(n) => n,
     }
 }
 

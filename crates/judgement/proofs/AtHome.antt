@@ -1,23 +1,22 @@
 -- Where every occupied slot is right for its place, all slots that point to a live place are home slots of its animal: so conditions 5
 -- and 6 are decided there. Assumes nothing.
 use Prim.Native.Nat.{ℕ, _+_, _-_, _*_, _/_, _<_, _≤_}
-use native.Mathlib.Nat.{div-add-mod', mod-lt, mul-le-mul-right, add-mul, one-mul}
+use native.Mathlib.Nat.{mul-le-mul-right, add-mul, one-mul}
 use native.Mathlib.Omega.{arith}
 use native.Mathlib.Decide.{ℕ-discrete, decLt}
 use mathlib.Core.Path.{_≡_, refl, sym, _∙_}
-use mathlib.Core.Logic.{_≢_, _⊎_, dite, ⊎-elim}
+use mathlib.Core.Logic.{_≢_, dite}
 use mathlib.Core.Bool.{Bool, true, false}
 use mathlib.Core.List.{List, List·Memᴰ as In}
-use mathlib.Core.List.{Memᴰ·append-left, Memᴰ·append-right}
 use lib.ListN.{length}
 use lib.Dec.{eqb}
 use borrow.Author.Tests.{eq-eqb, ne-eqb}
 use Rattle.model.specs.Choice.{range, any}
 use Rattle.model.specs.Memory.{Mem, word, place, animal}
-use Rattle.model.specs.Shape.{Shape, Ways, bucket, second-of, slots-of, homes, shape-of, Home}
+use Rattle.model.specs.Shape.{Shape, Ways, second-of, slots-of, homes, shape-of}
 use Rattle.model.specs.WellFormed.{Live, Right, Sole}
-use Rattle.model.proofs.ListLaws.{range-in, in-range}
-use Rattle.model.proofs.ListLaws.{inside-held}
+use Rattle.model.proofs.ListLaws.{in-range, inside-held, range-in}
+use Rattle.model.proofs.HomeSlots.{home-in}
 use Rattle.model.proofs.Hash.{other-not}
 use Rattle.model.proofs.Lent.{fit}
 use Rattle.judgement.specs.Conditions.{count, names, twin}

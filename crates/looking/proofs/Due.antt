@@ -11,10 +11,10 @@ use borrow.Author.Tests.{ne-eqb}
 use Rattle.model.specs.Choice.{any, choose}
 use Rattle.model.specs.Memory.{Mem, damaged}
 use Rattle.model.specs.Shape.{Ways, right-lengths, shape-of}
-use Rattle.model.specs.Calls.{Outcome, asked, busy, home-damage, refuse}
+use Rattle.model.specs.Calls.{Outcome, busy, home-damage, refuse}
 use Rattle.model.proofs.ListLaws.{bool}
 use Rattle.home_words.specs.HomeWords.{home-words}
-use Rattle.looking.specs.Look.{HomesIn, Passed, due, early}
+use Rattle.looking.specs.Look.{HomesIn, due, early}
 use Rattle.looking.proofs.Early.{asked-now, early-passed}
 use Rattle.looking.proofs.OwnWords.{damage-is, odd-is}
 use Rattle.hashing.specs.declared.Homes.{Homes}

@@ -15,11 +15,10 @@ use Rattle.model.specs.Shape.{Home, Shape, Ways, bucket, pair, right-len
 use Rattle.model.specs.Stores.{Block, stores-of, whole, wholes}
 use Rattle.model.specs.Moves.{Move, Run, as-move, as-moves, moved, moved-by, records-of}
 use Rattle.model.specs.Visits.{stop-slot}
-use Rattle.model.specs.Calling.{Call, did, plan-set, set-animal, step-enter, step-move}
-use Rattle.model.specs.Answers.{entry-made, move-made, planned}
+use Rattle.model.specs.Calling.{Call, did, set-animal, step-enter, step-move}
+use Rattle.model.specs.Answers.{entry-made, move-made}
 use Rattle.model.specs.Age.{bad-grant}
 use Rattle.model.specs.Calls.{Outcome, busy, call, enter-block, final-at, held, home-damage, move-at, move-block, move-blocks, moves-found, refuse, stopped, vacant-place, visited}
-use Rattle.model.specs.Late.{ItsTurn}
 use Rattle.model.specs.AnyTable.{Table, leaves, left}
 use Rattle.model.specs.Ours.{ours}
 use Rattle.model.specs.InSteps.{AllMade, MayEnter, MayMove, StepsAreSet, steps}

@@ -1,11 +1,11 @@
 -- Wish 7, on any memory: when a move and the final store are made, and what a plan is beside a set. Assumes nothing.
-use Prim.Native.Nat.{ℕ, _+_, _<_}
+use Prim.Native.Nat.{ℕ, _+_}
 use native.Mathlib.Omega.{arith}
 use mathlib.Core.Path.{_≡_, refl, sym, ap, _∙_, subst}
 use mathlib.Core.Logic.{_≢_, _↔_, ⊎-elim}
 use mathlib.Core.Bool.{Bool, true, false}
 use mathlib.Core.Option.{Option, none, some}
-use mathlib.Core.List.{List, [], _∷_, _++_}
+use mathlib.Core.List.{List, [], _∷_}
 use lib.ListN.{length}
 use lib.Dec.{eqb}
 use borrow.Author.Tests.{eqb-false, ne-eqb}
@@ -17,11 +17,11 @@ use Rattle.model.specs.Moves.{as-move, as-moves, records-of}
 use Rattle.model.specs.Calling.{plan-set, set-animal, step-enter, step-move}
 use Rattle.model.specs.Answers.{Answer, entry-made, move-made, planned, refused, stored}
 use Rattle.model.specs.Age.{bad-grant}
-use Rattle.model.specs.Calls.{Outcome, asked, busy, enter-at, enter-block, entered, final-at, final-slot, held, home-damage, may-enter, may-move, move-at, move-block, move-blocks, moves-found, plan-at, plan-new, refuse, search-damage, set-at, stopped, tell, vacant-place, visited}
+use Rattle.model.specs.Calls.{Outcome, asked, busy, enter-at, enter-block, entered, final-slot, held, home-damage, may-enter, may-move, move-at, move-block, moves-found, plan-at, plan-new, refuse, search-damage, set-at, stopped, tell, vacant-place, visited}
 use Rattle.model.specs.Lent.{lent-call}
 use Rattle.model.specs.Late.{ItsTurn}
 use Rattle.model.specs.Ours.{ours, traced}
-use Rattle.model.specs.InSteps.{EnterMadeIff, MayEnter, MayMove, MoveMadeIff, PlanIsSets, PlanQuiet, SetsOwn, StepRule, plan-answer, set-answer}
+use Rattle.model.specs.InSteps.{EnterMadeIff, MayEnter, MayMove, MoveMadeIff, PlanIsSets, PlanQuiet, SetsOwn, StepRule, plan-answer}
 use Rattle.model.specs.declared.Grant.{Grant}
 use Rattle.model.specs.declared.MoveRecord.{MoveRecord}
 use Rattle.model.proofs.ListLaws.{bool, true-false}

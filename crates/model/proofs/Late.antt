@@ -4,22 +4,21 @@ use native.Mathlib.Omega.{arith}
 use native.Mathlib.Decide.{decLt}
 use mathlib.Core.Path.{_≡_, refl, sym, ap, _∙_}
 use mathlib.Core.Logic.{_≢_, _⊎_, inl, inr, ⊎-elim, dite}
-use mathlib.Core.Bool.{Bool, true, false, not, _&&_, _||_}
+use mathlib.Core.Bool.{Bool, true, false, not, _&&_}
 use mathlib.Core.Option.{Option, none, some}
 use mathlib.Core.List.{List}
 use lib.ListN.{length, set, length-set, List·getD-eq-default}
 use lib.Seq.{getD-set-same, getD-set-other}
 use lib.Dec.{eqb, ltb}
-use borrow.Author.Tests.{eq-eqb, eqb-false, le-ltb, lt-ltb, ltb-false, ltb-true, ne-eqb}
+use borrow.Author.Tests.{eq-eqb, eqb-false, lt-ltb, ltb-true, ne-eqb}
 use Rattle.model.specs.Choice.{choose}
 use Rattle.model.specs.Memory.{Mem, stamp}
-use Rattle.model.specs.Shape.{Shape, Ways, counter-of, right-lengths, shape-of}
+use Rattle.model.specs.Shape.{Shape, Ways, counter-of, shape-of}
 use Rattle.model.specs.Calling.{set-animal}
 use Rattle.model.specs.Answers.{refused, stored}
-use Rattle.model.specs.Age.{bad-grant, late, no-minute, retired-mark}
-use Rattle.model.specs.Calls.{Outcome, asked, busy, enter-at, entered, held, home-damage, refuse, search-damage, set-at, stopped, updated, vacant-place, visited}
-use Rattle.model.specs.Demands.{GoodInputs}
-use Rattle.model.specs.Late.{Dated, ItsTurn, LateRefused, StampsRise}
+use Rattle.model.specs.Age.{late, retired-mark}
+use Rattle.model.specs.Calls.{Outcome, enter-at, entered, held, refuse, search-damage, set-at, stopped, updated, vacant-place, visited}
+use Rattle.model.specs.Late.{Dated, LateRefused, StampsRise}
 use Rattle.model.specs.Lent.{lent-after, lent-call}
 use Rattle.model.specs.Row.{renew}
 use Rattle.model.specs.declared.Grant.{Grant}

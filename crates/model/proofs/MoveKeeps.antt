@@ -1,17 +1,17 @@
 -- A move that may be made changes nothing that the next step asks first, on any memory: no counter's parity, no slot's damage, and who was
 -- absent stays absent. Assumes nothing.
-use Prim.Native.Nat.{ℕ, _+_, _*_, _%_, _^_, _<_, _≤_}
+use Prim.Native.Nat.{ℕ, _*_, _%_, _<_, _≤_}
 use native.Mathlib.Omega.{arith}
 use native.Mathlib.Decide.{ℕ-discrete, decLt}
 use mathlib.Core.Path.{_≡_, refl, sym, ap, _∙_}
-use mathlib.Core.Logic.{_≢_, ⊎-elim, dite}
-use mathlib.Core.Bool.{Bool, true, false}
+use mathlib.Core.Logic.{dite}
+use mathlib.Core.Bool.{true, false}
 use mathlib.Core.Option.{Option, none, some}
 use mathlib.Core.List.{List, List·Memᴰ as In}
-use lib.ListN.{length, getD, set, length-set}
+use lib.ListN.{length, getD, length-set}
 use lib.Seq.{getD-set-same, getD-set-other, set-out}
 use lib.Dec.{eqb}
-use Rattle.model.specs.Choice.{choose, first, there}
+use Rattle.model.specs.Choice.{choose, there}
 use Rattle.model.specs.Memory.{Mem, animal, damaged, place, tag, word}
 use Rattle.model.specs.Shape.{Home, Shape, bucket, counter-of, homes}
 use Rattle.model.specs.Stores.{whole}

@@ -2,29 +2,29 @@
 -- keeps the answer of every animal that it is not about. Assumes nothing.
 use Prim.Native.Nat.{ℕ, _≤_}
 use native.Mathlib.Omega.{arith}
-use mathlib.Core.Path.{_≡_, refl, sym, ap, _∙_, subst}
+use mathlib.Core.Path.{_≡_, sym, ap, _∙_, subst}
 use mathlib.Core.Logic.{_≢_, ⊎-elim}
 use mathlib.Core.Bool.{Bool, true, false}
 use mathlib.Core.Option.{none}
 use mathlib.Core.List.{List}
-use lib.ListN.{length, getD}
+use lib.ListN.{length}
 use lib.Seq.{take-all}
 use lib.Dec.{eqb}
 use Rattle.model.specs.Choice.{choose}
 use Rattle.model.specs.Memory.{Mem}
-use Rattle.model.specs.Shape.{Home, Shape, Ways, bucket, pair, right-lengths, shape-of}
+use Rattle.model.specs.Shape.{Home, Shape, Ways, bucket, pair, shape-of}
 use Rattle.model.specs.Moves.{Run, as-moves}
 use Rattle.model.specs.Visits.{free-slot, stop-bucket}
-use Rattle.model.specs.Calling.{Call, Typed, about, did, plan-set}
+use Rattle.model.specs.Calling.{about, did, plan-set}
 use Rattle.model.specs.Answers.{Answer, planned, refused}
 use Rattle.model.specs.Age.{bad-time, judge}
 use Rattle.model.specs.Calls.{held, moves-found, reading, refuse, stopped, tell, visited}
-use Rattle.model.specs.Row.{row-call, walk-to}
+use Rattle.model.specs.Row.{walk-to}
 use Rattle.model.specs.AnyTable.{Table, Write, cut-at, leaves, make-all}
 use Rattle.model.specs.Demands.{GoodInputs, Story, SeenBy, reads, shape-in, table}
 use Rattle.model.specs.Ours.{ours}
 use Rattle.model.specs.WellFormed.{WellFormed}
-use Rattle.model.specs.InSteps.{OthersKept, PlanRoom, PlanRoomy}
+use Rattle.model.specs.InSteps.{OthersKept, PlanRoom}
 use Rattle.model.specs.declared.Grant.{Grant}
 use Rattle.model.specs.declared.MoveRecord.{MoveRecord}
 use Rattle.model.proofs.ListLaws.{true-false}
@@ -33,7 +33,7 @@ use Rattle.model.proofs.Records.{length-records}
 use Rattle.model.proofs.Search.{length-climb}
 use Rattle.model.proofs.ReadWalk.{held-walk, read-walk}
 use Rattle.model.proofs.Demand1.{is-refusal, judged}
-use Rattle.model.proofs.OnWellFormed.{lawY, seen-on, still-right, well-on}
+use Rattle.model.proofs.OnWellFormed.{seen-on, well-on}
 use Rattle.model.proofs.Demands.{our-room, same-story, well-story}
 use Rattle.model.proofs.InSteps.{as-found, plan-is-sets}
 use Rattle.model.proofs.CarriedOut.{plan-final, plan-moves, plan-shortest}

@@ -1,24 +1,23 @@
 -- In a well-formed table a read finds what a walk over the places finds. Assumes nothing.
-use Prim.Native.Nat.{ℕ, _*_, _/_, _<_}
-use native.Mathlib.Nat.{mod-lt, div-add-mod'}
+use Prim.Native.Nat.{ℕ}
 use native.Mathlib.Omega.{arith}
 use native.Mathlib.Decide.{ℕ-discrete}
 use mathlib.Core.Path.{_≡_, refl, sym, ap, _∙_}
-use mathlib.Core.Logic.{_≢_, ⊎-elim, dite}
+use mathlib.Core.Logic.{_≢_, dite}
 use mathlib.Core.Bool.{Bool, true}
 use mathlib.Core.Option.{Option, some}
-use mathlib.Core.List.{List, List·Memᴰ as In, Memᴰ·append-left, Memᴰ·append-right}
+use mathlib.Core.List.{List, List·Memᴰ as In}
 use lib.Dec.{eqb}
 use borrow.Author.Tests.{eq-eqb, eqb-true}
 use Rattle.model.specs.Choice.{range}
 use Rattle.model.specs.Memory.{Mem, animal, place, tag, word}
-use Rattle.model.specs.Shape.{Home, Shape, bucket, counter-of, homes, slots-of}
+use Rattle.model.specs.Shape.{Shape, counter-of, homes}
 use Rattle.model.specs.Answers.{Answer}
 use Rattle.model.specs.Age.{bad-time, judge}
 use Rattle.model.specs.Calls.{Outcome, held, hit, hits, place-at, reading, tell}
 use Rattle.model.specs.Row.{walk-to}
 use Rattle.model.specs.WellFormed.{Live, Right, WellFormed}
-use Rattle.model.proofs.ListLaws.{inside-held, First, both-is, both-yes, first-is, found, missing, range-in, true-false, walk-is}
+use Rattle.model.proofs.ListLaws.{First, both-is, both-yes, first-is, found, missing, range-in, true-false, walk-is}
 use Rattle.model.proofs.Calm.{calm, quick}
 use Rattle.model.proofs.KeepBlocks.{live-in}
 use Rattle.model.proofs.HomeSlots.{home-in}

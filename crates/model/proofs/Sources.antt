@@ -3,7 +3,7 @@ use Prim.Native.Nat.{ℕ, zero, suc, _+_, _-_, _*_, _/_, _%_, _<_, _≤_}
 use native.Mathlib.Nat.{div-le-self, mod-lt}
 use native.Mathlib.Omega.{arith}
 use native.Mathlib.Decide.{decLt}
-use mathlib.Core.Path.{_≡_, refl, ap}
+use mathlib.Core.Path.{_≡_, refl}
 use mathlib.Core.Logic.{dite}
 use mathlib.Core.Bool.{Bool, true, false}
 use mathlib.Core.Option.{Option}
@@ -11,7 +11,7 @@ use mathlib.Core.List.{List, [], _∷_, List·Memᴰ as In}
 use lib.ListN.{length, getD, take, length-take}
 use lib.Seq.{getD-take}
 use borrow.Author.Tests.{le-ltb, lt-ltb}
-use Rattle.model.specs.Choice.{any, first, range, there}
+use Rattle.model.specs.Choice.{any, range, there}
 use Rattle.model.specs.Memory.{damage-at, damaged}
 use Rattle.model.specs.Shape.{Layout}
 use Rattle.model.specs.Moves.{Move}

@@ -5,7 +5,7 @@ use mathlib.Core.Path.{_≡_, refl, sym, ap, _∙_, subst}
 use mathlib.Core.Logic.{_≢_}
 use mathlib.Core.Bool.{Bool, true, false, not}
 use mathlib.Core.Option.{Option, none, some}
-use mathlib.Core.List.{List, [], _∷_}
+use mathlib.Core.List.{[], _∷_}
 use lib.ListN.{length}
 use lib.Dec.{eqb, leb}
 use borrow.Author.Tests.{eq-eqb, lt-leb}
@@ -14,8 +14,8 @@ use Rattle.model.specs.Memory.{Mem, animal}
 use Rattle.model.specs.Shape.{Shape}
 use Rattle.model.specs.Moves.{as-move, records-of}
 use Rattle.model.specs.Answers.{entry-made, move-made, planned, refused}
-use Rattle.model.specs.Calls.{Outcome, enter-block, final-at, final-slot, held, may-enter, may-move, move-at, move-block, moves-found, plan-at, plan-new, refuse, stopped, tell, vacant-place, visited}
-use Rattle.model.specs.Row.{Row, fill, row-enter, row-move, row-plan, row-plan-new, stay, walk-to}
+use Rattle.model.specs.Calls.{enter-block, final-at, final-slot, may-enter, may-move, move-at, move-block, moves-found, plan-at, plan-new, refuse, stopped, tell, vacant-place, visited}
+use Rattle.model.specs.Row.{Row, fill, row-enter, row-move, row-plan, row-plan-new, stay}
 use Rattle.model.specs.WellFormed.{WellFormed}
 use Rattle.model.specs.InSteps.{MayEnter}
 use Rattle.model.specs.declared.Grant.{Grant}

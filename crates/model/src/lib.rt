@@ -9,7 +9,8 @@ pub struct Grant {
     pub minute: u64,
 }
 
-// A move: the slot that it empties, the tag of the entry there, and the slot that the entry goes to.
+// A move: the slot that it empties, the tag of the entry there, and the slot that the entry goes to. A cabinet passes it as it is.
+#[repr(C)]
 pub struct MoveRecord {
     pub from: usize,
     pub tag: u32,

@@ -1,19 +1,18 @@
 -- The tables with wrong steps break wish 7's rule, which the demands do not say: refusal 12 is one of their exceptions. Assumes nothing.
-use Prim.Native.Nat.{ℕ, _≤_}
+use Prim.Native.Nat.{ℕ}
 use native.Mathlib.Omega.{arith}
 use mathlib.Core.Path.{_≡_, refl, sym, ap, _∙_}
 use mathlib.Core.Logic.{inl}
-use mathlib.Core.Bool.{true, false}
+use mathlib.Core.Bool.{true}
 use mathlib.Core.List.{List, []}
 use lib.ListN.{getD}
-use Rattle.model.specs.Memory.{Mem}
 use Rattle.model.specs.Shape.{four, shape-of}
 use Rattle.model.specs.Calling.{Event, did, grant, step-enter, step-move}
-use Rattle.model.specs.Answers.{Answer, entry-made, move-made, refused}
+use Rattle.model.specs.Answers.{move-made, refused}
 use Rattle.model.specs.Calls.{may-enter, may-move}
 use Rattle.model.specs.AnyTable.{Table, Write, make-all}
 use Rattle.model.specs.Late.{ItsTurn}
-use Rattle.model.specs.InSteps.{MayEnter, MayMove, StepRule}
+use Rattle.model.specs.InSteps.{MayEnter, StepRule}
 use Rattle.model.specs.Examples.{move-of, nobody, seventeen, three-full}
 use Rattle.model.specs.declared.Grant.{Grant}
 use Rattle.model.proofs.ListLaws.{true-false}

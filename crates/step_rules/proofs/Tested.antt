@@ -2,18 +2,13 @@
 use Prim.Native.Nat.{ℕ, _^_, _/_, _≤_, _<_}
 use native.Mathlib.Nat.{div-le-self}
 use native.Mathlib.Omega.{arith}
-use mathlib.Core.Path.{_≡_, refl, sym, ap, _∙_}
+use mathlib.Core.Path.{_≡_, refl, sym}
 use mathlib.Core.Bool.{Bool, true, false, not, _&&_, _||_}
-use mathlib.Core.List.{List, [], _∷_}
-use mathlib.Core.Option.{Option, none}
-use lib.ListN.{length, getD}
 use lib.Dec.{eqb, ltb}
 use borrow.Author.Tests.{le-ltb, lt-ltb}
-use Rattle.model.specs.Choice.{choose, one-of, there}
-use Rattle.model.specs.Memory.{Mem, animal, damaged, tag, word}
+use Rattle.model.specs.Choice.{choose}
+use Rattle.model.specs.Memory.{damaged, tag}
 use Rattle.model.specs.Hash.{other-bucket}
-use Rattle.model.specs.Shape.{Shape, Ways, second-of, shape}
-use Rattle.model.specs.Calls.{held, may-enter, may-move}
 use Rattle.model.specs.declared.MoveRecord.{MoveRecord}
 use Rattle.step_rules.specs.Rules.{enters-by, moves-by}
 

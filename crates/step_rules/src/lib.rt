@@ -1,6 +1,6 @@
 // The rule of a step by the words that it finds. Nothing is read here: whoever asks brings the words, of the table or of one that moves
 // would leave. The ways of a table come in as a shift: it has 2^shift slots a bucket.
-ghost use Prim.Native.Nat.{ℕ, _^_, _≤_, _<_};
+ghost use Prim.Native.Nat.{_^_, _≤_, _<_};
 ghost use mathlib.Core.Path.{_≡_};
 ghost use Rattle.model.specs.Hash.{Size};
 ghost use Rattle.step_rules.specs.Rules.{enters-by, moves-by};

@@ -7,16 +7,15 @@ use mathlib.Core.Bool.{Bool, true, false, not, _&&_}
 use mathlib.Core.Option.{none}
 use mathlib.Core.List.{List, [], _∷_}
 use lib.ListN.{length, getD}
-use lib.Dec.{eqb, ltb}
 use borrow.Author.Tests.{le-ltb, lt-ltb, not-false, not-true}
-use Rattle.model.specs.Choice.{choose, one-of, there}
+use Rattle.model.specs.Choice.{choose, there}
 use Rattle.model.specs.Memory.{Mem, animal, mem, word}
-use Rattle.model.specs.Shape.{Shape, Ways, bucket, four, pair, right-lengths, shape-of}
+use Rattle.model.specs.Shape.{Shape, Ways, four, right-lengths, shape-of}
 use Rattle.model.specs.Stores.{Block, enter, stores, stores-of}
 use Rattle.model.specs.Calling.{step-enter}
 use Rattle.model.specs.Answers.{Answer, entry-made, refused}
 use Rattle.model.specs.Age.{bad-grant}
-use Rattle.model.specs.Calls.{Outcome, enter-block, final-at, held, may-enter, refuse}
+use Rattle.model.specs.Calls.{Outcome, final-at, held, may-enter, refuse}
 use Rattle.model.specs.Promised.{CutAs, Does, WholeAs}
 use Rattle.model.proofs.Hash.{size-most}
 use Rattle.model.proofs.Lent.{fit}

@@ -1,7 +1,7 @@
 -- One whole move: the do, a law a way out, and the call. Assumes nothing.
-use Prim.Native.Nat.{ℕ, _+_, _*_, _/_, _^_, _<_, _≤_}
+use Prim.Native.Nat.{ℕ, _/_, _^_, _<_}
 use native.Mathlib.Omega.{arith}
-use mathlib.Core.Path.{_≡_, refl, sym, ap, _∙_, subst}
+use mathlib.Core.Path.{_≡_, refl, sym, ap, _∙_}
 use mathlib.Core.Logic.{_≢_}
 use mathlib.Core.Bool.{Bool, true, false, not}
 use mathlib.Core.List.{List, [], _∷_}
@@ -16,7 +16,7 @@ use Rattle.model.specs.Moves.{as-move}
 use Rattle.model.specs.Calling.{step-move}
 use Rattle.model.specs.Answers.{Answer, move-made, refused}
 use Rattle.model.specs.Age.{bad-grant}
-use Rattle.model.specs.Calls.{Outcome, may-move, move-at, move-block, refuse}
+use Rattle.model.specs.Calls.{may-move, move-at, move-block, refuse}
 use Rattle.model.specs.Promised.{CutAs, Does, WholeAs}
 use Rattle.model.proofs.Hash.{size-most}
 use Rattle.model.proofs.Lent.{and-is, fit}

@@ -1,0 +1,11 @@
+-- `boughladder::boughladder_step_enter` meets its contract. Assumes nothing.
+use borrow.Author.Needs.{needs}
+use Rattle.boughladder.proofs.boughladder_step_enter.Statement.{statement}
+use Rattle.boughladder.proofs.boughladder_step_enter.Tie as tie
+use Rattle.boughladder.proofs.Laws.{told-whole}
+
+pub boughladder-step-enter-spec : {M : Type 1} → statement M
+boughladder-step-enter-spec =
+    tie.close
+    (tie.spec
+    (λ c κs. search needs) (λ c κs. search needs) (λ c. search needs) (λ c. search needs) (λ c. search needs) (λ c. search (told-whole, needs)))
