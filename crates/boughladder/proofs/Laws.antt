@@ -1,21 +1,14 @@
 -- What an exported call promises, from the call's own promise and the clothes of what it told. Assumes nothing.
 use Prim.Native.Nat.{ℕ, _<_}
-use native.Mathlib.Decide.{ℕ-discrete}
-use mathlib.Core.Path.{_≡_, refl, sym, ap, _∙_, ap₂, subst}
-use mathlib.Core.Logic.{dite}
+use mathlib.Core.Path.{_≡_, ap, _∙_, ap₂}
 use mathlib.Core.List.{List}
-use lib.ListN.{length}
-use Rattle.model.specs.Choice.{choose}
 use Rattle.model.specs.Memory.{Mem}
 use Rattle.model.specs.Shape.{Ways}
-use Rattle.model.specs.Moves.{four-records}
-use Rattle.model.specs.Answers.{Answer, is, moves-told, value}
+use Rattle.model.specs.Answers.{Answer}
 use Rattle.model.specs.Calling.{Call, evict}
-use Rattle.model.specs.Said.{plan-of, said-evicting, said-listing, said-reading, said-finding}
+use Rattle.model.specs.Said.{said-evicting, said-listing, said-reading, said-finding}
 use Rattle.model.specs.Lent.{lent-call}
-use Rattle.model.specs.Promised.{CutAs, FreshAs, WholeAs}
-use Rattle.model.proofs.ListLaws.{bool}
-use Rattle.model.proofs.Paper.{numbered}
+use Rattle.model.specs.Promised.{FreshAs}
 use Rattle.model.proofs.Demand1.{told-small}
 use Rattle.plain.specs.Plain.{plain-read}
 use Rattle.plain.proofs.Says.{plain-small}
@@ -24,20 +17,19 @@ use Rattle.judgement.specs.Said.{said}
 use Rattle.judgement.specs.declared.Judgement.{Judgement}
 use Rattle.evicting.specs.Evict.{EvictCut, Evicted}
 use Rattle.listing.specs.List.{ListedAs}
-use Rattle.clothes.specs.Clothes.{evicting-clothes, listing-clothes, number, turned-clothes, reading-clothes, finding-clothes, judgement-clothes, plan-clothes, plan-dressed, plan-refusal}
-use Rattle.boughladder.specs.Dressed.{CutIn, FreshIn, ListIn, WholeIn}
+use Rattle.clothes.specs.Clothes.{evicting-clothes, listing-clothes, number, turned-clothes, reading-clothes, finding-clothes, judgement-clothes}
+use Rattle.clothes.specs.Dressed.{CutIn, WholeIn}
+use Rattle.boughladder.specs.Dressed.{FreshIn, ListIn}
 use Rattle.clothes.specs.declared.BoughladderEvicting.{BoughladderEvicting}
 use Rattle.clothes.specs.declared.BoughladderListing.{BoughladderListing}
 use Rattle.model.specs.declared.Listing.{Listing}
 use Rattle.evicting.specs.declared.Turned.{Turned}
-use Rattle.model.specs.declared.Plan.{Plan}
 use Rattle.model.specs.declared.Planning.the-variants as planning
 use Rattle.model.specs.declared.Reading.{Reading}
 use Rattle.model.specs.declared.Finding.{Finding}
 use Rattle.clothes.specs.declared.BoughladderReading.{BoughladderReading}
 use Rattle.clothes.specs.declared.BoughladderFinding.{BoughladderFinding}
 use Rattle.clothes.specs.declared.BoughladderJudgement.{BoughladderJudgement}
-use Rattle.clothes.specs.declared.BoughladderPlan.{BoughladderPlan}
 
 module _ (W : Ways) (m : Mem) (c : Call) where
   -- an answer's number is one of document 01's, and those are small
@@ -55,27 +47,8 @@ told-read t e h = e ∙ ap reading-clothes h
 pub told-find : {a : Answer} (t : Finding) {r : BoughladderFinding} → r ≡ finding-clothes (said-finding t) → said-finding t ≡ a → r ≡ finding-clothes a
 told-find t e h = e ∙ ap finding-clothes h
 
--- plan: an answer that is a plan has number 0
-pub told-plan : (a : Answer) {b : Plan} {r : BoughladderPlan} → r ≡ plan-dressed b → b ≡ plan-of a → r ≡ plan-clothes a
-told-plan a e h =
-    e ∙ ap plan-dressed h
-    ∙ ap (λ n. record { refusal = n; count = length (moves-told a); place = value a 1; slot = value a 2; moves = four-records (moves-told a) }) (number-is a)
-  where
-    number-is : (a : Answer) → plan-refusal (plan-of a .told) ≡ number a
-    number-is a =
-        dite (ℕ-discrete (number a) 0)
-        (λ z. bool (λ b. plan-refusal (choose b planning.Planned (planning.Refused (number a))) ≡ number a) (is 10 a) (λ t. sym z) λ t. refl)
-        λ nz. subst (λ a. plan-refusal (plan-of a .told) ≡ number a) (sym (numbered a nz)) refl
-
 pub told-judge : {v : Verdict} (t : Judgement) {r : BoughladderJudgement} → r ≡ judgement-clothes (said t) → said t ≡ v → r ≡ judgement-clothes v
 told-judge t e h = e ∙ ap judgement-clothes h
-
-module _ (W : Ways) {m m′ : Mem} {c : Call} {R : Type 0} {clothes : Answer → R} {a : Answer} {r : R} (e : r ≡ clothes a) where
-  pub told-whole : WholeAs W m c m′ a → WholeIn W clothes m c m′ r
-  told-whole s = record { told = e ∙ ap clothes (s .told); left = s .left }
-
-  pub told-cut : {k : ℕ} → CutAs W m c k m′ a → CutIn W clothes m c k m′ r
-  told-cut s = record { told = e ∙ ap clothes (s .told); left = s .left }
 
 module _ (W : Ways) {m m′ : Mem} where
   pub told-fresh : {a : Answer} {r : ℕ} → r ≡ number a → FreshAs W m m′ a → FreshIn W m m′ r

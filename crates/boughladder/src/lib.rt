@@ -1,23 +1,23 @@
-// The calls that a cabinet links, as libboughladder.a: C names over numbers and slices, and nothing but the C clothes of each answer.
+// The calls that a cabinet links, as libboughladder.a: C names over numbers and slices, and nothing but the C clothes of each answer. A set
+// in steps has an object of its own, boughladder_steps.
 ghost use mathlib.Core.Path.{_≡_};
 ghost use Rattle.model.specs.Memory.{mem};
 ghost use Rattle.model.specs.Shape.{four};
 ghost use Rattle.model.specs.Hash.{fnv-step};
-ghost use Rattle.model.specs.Calling.{delete, evict, find, grant, plan-set, read, serve, set-animal, step-enter, step-move};
+ghost use Rattle.model.specs.Calling.{delete, evict, find, grant, read, serve, set-animal};
 ghost use Rattle.model.specs.Lent.{lent-call};
 ghost use Rattle.plain.specs.Plain.{plain-read};
 ghost use Rattle.judgement.specs.Verdict.{judgement};
-ghost use Rattle.clothes.specs.Clothes.{number, reading-clothes, finding-clothes, setting-clothes, plan-clothes, evicting-clothes, judgement-clothes};
-ghost use Rattle.boughladder.specs.Dressed.{WholeIn, CutIn, FreshIn, ListIn};
+ghost use Rattle.clothes.specs.Clothes.{number, reading-clothes, finding-clothes, setting-clothes, evicting-clothes, judgement-clothes};
+ghost use Rattle.clothes.specs.Dressed.{WholeIn, CutIn};
+ghost use Rattle.boughladder.specs.Dressed.{FreshIn, ListIn};
 use clothes::BoughladderEvicting;
 use clothes::BoughladderFinding;
 use clothes::BoughladderJudgement;
 use clothes::BoughladderListing;
-use clothes::BoughladderPlan;
 use clothes::BoughladderReading;
 use clothes::BoughladderSetting;
 use model::Grant;
-use model::MoveRecord;
 use places::Hand;
 
 #[no_mangle]
@@ -132,81 +132,6 @@ pub extern "C" fn boughladder_set_cut(
     };
     let told = setting::set_cut(slots, counters, items, granted, k);
     clothes::dress_setting(told)
-}
-
-// What a set of an absent animal would do now: it stores nothing.
-#[no_mangle]
-pub extern "C" fn boughladder_plan(
-    slots: &[u32],
-    counters: &[u32],
-    items: &[u64],
-    animal: u64,
-    permission: u32,
-    issued: u64,
-    minute: u64,
-) -> BoughladderPlan
-    ensures { λ r. ⌜ r ≡ plan-clothes (lent-call four (mem (now (slots .entry)) (now (counters .entry)) (now (items .entry)))
-        (plan-set (grant animal permission issued minute)) .answer) ⌝ }
-{
-    let granted = Grant {
-        animal,
-        permission,
-        issued,
-        minute,
-    };
-    let plan = planning::plan(slots, counters, items, granted);
-    clothes::dress_plan(plan)
-}
-
-// One whole move of a plan.
-#[no_mangle]
-pub extern "C" fn boughladder_step_move(
-    slots: &mut [u32],
-    counters: &mut [u32],
-    items: &[u64],
-    step: MoveRecord,
-    animal: u64,
-    permission: u32,
-    issued: u64,
-    minute: u64,
-) -> u32
-    ensures { λ r. ⌜ WholeIn four number (mem (now (slots .entry)) (now (counters .entry)) (now (items .entry)))
-        (step-move (grant animal permission issued minute) step) (mem (now (slots .exit)) (now (counters .exit)) (now (items .entry))) r ⌝ }
-{
-    let granted = Grant {
-        animal,
-        permission,
-        issued,
-        minute,
-    };
-    let told = stepping::step_move(slots, counters, items, granted, step);
-    clothes::dress_stepping(told)
-}
-
-// The final store of a plan.
-#[no_mangle]
-pub extern "C" fn boughladder_step_enter(
-    slots: &mut [u32],
-    counters: &mut [u32],
-    items: &mut [u64],
-    place: usize,
-    slot: usize,
-    animal: u64,
-    permission: u32,
-    issued: u64,
-    minute: u64,
-) -> u32
-    ensures { λ r. ⌜ WholeIn four number (mem (now (slots .entry)) (now (counters .entry)) (now (items .entry)))
-        (step-enter (grant animal permission issued minute) place slot) (mem (now (slots .exit)) (now (counters .exit)) (now (items .exit))) r ⌝ }
-{
-    let granted = Grant {
-        animal,
-        permission,
-        issued,
-        minute,
-    };
-    let told = stepping::step_enter(slots, counters, items, granted, place, slot);
-    clothes::dress_stepping(told)
 }
 
 #[no_mangle]

@@ -1,1 +1,2 @@
 pub mod Dressing
+pub mod Dressed

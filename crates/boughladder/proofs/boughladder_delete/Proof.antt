@@ -2,7 +2,7 @@
 use borrow.Author.Needs.{needs}
 use Rattle.boughladder.proofs.boughladder_delete.Statement.{statement}
 use Rattle.boughladder.proofs.boughladder_delete.Tie as tie
-use Rattle.boughladder.proofs.Laws.{told-whole}
+use Rattle.clothes.proofs.Dressed.{told-whole}
 
 pub boughladder-delete-spec : {M : Type 1} → statement M
 boughladder-delete-spec =

@@ -2,7 +2,7 @@
 use borrow.Author.Needs.{needs}
 use Rattle.boughladder.proofs.boughladder_delete_cut.Statement.{statement}
 use Rattle.boughladder.proofs.boughladder_delete_cut.Tie as tie
-use Rattle.boughladder.proofs.Laws.{told-cut}
+use Rattle.clothes.proofs.Dressed.{told-cut}
 
 pub boughladder-delete-cut-spec : {M : Type 1} → statement M
 boughladder-delete-cut-spec =

@@ -2,7 +2,7 @@
 use borrow.Author.Needs.{needs}
 use Rattle.boughladder.proofs.boughladder_set.Statement.{statement}
 use Rattle.boughladder.proofs.boughladder_set.Tie as tie
-use Rattle.boughladder.proofs.Laws.{told-whole}
+use Rattle.clothes.proofs.Dressed.{told-whole}
 
 pub boughladder-set-spec : {M : Type 1} → statement M
 boughladder-set-spec =

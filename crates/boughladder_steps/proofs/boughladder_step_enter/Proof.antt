@@ -1,8 +1,8 @@
--- `boughladder::boughladder_step_enter` meets its contract. Assumes nothing.
+-- `boughladder_steps::boughladder_step_enter` meets its contract. Assumes nothing.
 use borrow.Author.Needs.{needs}
-use Rattle.boughladder.proofs.boughladder_step_enter.Statement.{statement}
-use Rattle.boughladder.proofs.boughladder_step_enter.Tie as tie
-use Rattle.boughladder.proofs.Laws.{told-whole}
+use Rattle.boughladder_steps.proofs.boughladder_step_enter.Statement.{statement}
+use Rattle.boughladder_steps.proofs.boughladder_step_enter.Tie as tie
+use Rattle.clothes.proofs.Dressed.{told-whole}
 
 pub boughladder-step-enter-spec : {M : Type 1} → statement M
 boughladder-step-enter-spec =

@@ -1,8 +1,0 @@
--- `boughladder::boughladder_plan` meets its contract. Assumes nothing.
-use borrow.Author.Needs.{needs}
-use Rattle.boughladder.proofs.boughladder_plan.Statement.{statement}
-use Rattle.boughladder.proofs.boughladder_plan.Tie as tie
-use Rattle.boughladder.proofs.Laws.{told-plan}
-
-pub boughladder-plan-spec : {M : Type 1} → statement M
-boughladder-plan-spec = tie.close (tie.spec (λ c κs. search needs) (λ c κs. search needs) (λ c. search told-plan))
