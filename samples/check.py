@@ -4,7 +4,7 @@
     python3 samples/check.py [--echo] [FILE]      (no FILE, or -: standard input)
 
 It prints the answers that `./replay` must print, and ends with its status. It
-was written from the order, its change requests (wishes 1 to 6 have landed) and
+was written from the order, its change requests (wishes 1 to 7 have landed) and
 docs/replay-format.md only, not from the Rattle code, so that the two can disagree.
 Every call first works out its answer and the list of its stores without
 touching the table; then the first k stores are made. So the cut form and the
@@ -184,22 +184,30 @@ class Table:
                                   ('items', p + 1, permission),
                                   ('items', p + 2, issued),
                                   ('items', p + 3, 1), bump]
-        vacant = [p for p in range(self.m) if self.items[4 * p] == 0]
-        if not vacant:
-            raise Refused(5)
+        place = self.lowest_vacant()
         visits, moves, free = self.search(animal)
         stores = []
         for source, destination in moves:
-            word = self.slots[source]
-            add = ('counters', self.counter(source // 4, word // 65536), None)
-            stores += [add, ('slots', destination, word),
-                       ('slots', source, 0), add]
-        p = 4 * vacant[0]
-        stores += [bump,
-                   ('items', p, animal), ('items', p + 1, permission),
-                   ('items', p + 2, issued), ('items', p + 3, 1),
-                   ('slots', free, tag_of(animal) * 65536 + vacant[0]), bump]
+            stores += self.move_stores(source, destination)
+        stores += self.new_entry_stores(place, free, animal, permission, issued)
         return f'stored {visits} {len(moves)}', stores
+
+    def lowest_vacant(self):
+        for place in range(self.m):
+            if self.items[4 * place] == 0:
+                return place
+        raise Refused(5)
+
+    def move_stores(self, source, destination):
+        word = self.slots[source]
+        add = ('counters', self.counter(source // 4, word // 65536), None)
+        return [add, ('slots', destination, word), ('slots', source, 0), add]
+
+    def new_entry_stores(self, place, slot, animal, permission, issued):
+        add, p = ('counters', self.counter_of(animal), None), 4 * place
+        return [add, ('items', p, animal), ('items', p + 1, permission),
+                ('items', p + 2, issued), ('items', p + 3, 1),
+                ('slots', slot, tag_of(animal) * 65536 + place), add]
 
     def search(self, animal):
         """Visits, the moves in the order of making, the slot left free."""
@@ -223,6 +231,43 @@ class Table:
                      for b, way in level for j in range(4)]
         assert visits == 682
         raise Refused(6)
+
+    # -- a set in steps: each takes what a set takes, and is judged by the table it finds
+
+    def plan(self, animal, permission, issued, now):
+        """What a set would do. No store; and any held animal is 12, late or not."""
+        self.test_1_2_3_8_4(animal, issued=issued, now=now)
+        if self.hit(animal) is not None:
+            raise Refused(12)
+        place = self.lowest_vacant()
+        _, moves, free = self.search(animal)
+        numbers = [place, free]
+        for source, destination in moves:
+            numbers += [source, self.slots[source] // 65536, destination]
+        return ' '.join(['planned'] + [str(number) for number in numbers])
+
+    def move(self, source, tag, destination, animal, permission, issued, now):
+        """One whole move. The animal may be held by now, and the entry busy."""
+        self.test_1_2_3_8_4(animal, issued=issued, now=now)
+        if source >= len(self.slots) or destination >= len(self.slots):
+            raise Refused(12)
+        word = self.slots[source]
+        if word == 0 or self.damaged(word) or word // 65536 != tag:
+            raise Refused(12)
+        if self.slots[destination] != 0 or destination // 4 != self.other(tag, source // 4):
+            raise Refused(12)
+        return 'moved', self.move_stores(source, destination)
+
+    def enter(self, place, slot, animal, permission, issued, now):
+        """The final store, into any vacant place and any free slot of her buckets."""
+        self.test_1_2_3_8_4(animal, issued=issued, now=now)
+        if self.hit(animal) is not None:
+            raise Refused(12)
+        if place >= self.m or slot >= len(self.slots):
+            raise Refused(12)
+        if self.items[4 * place] != 0 or self.slots[slot] != 0 or slot // 4 not in self.homes(animal):
+            raise Refused(12)
+        return 'entered', self.new_entry_stores(place, slot, animal, permission, issued)
 
     def delete_stores(self, animal, slot, place):
         add = ('counters', self.counter_of(animal), None)
@@ -317,7 +362,7 @@ FORMS = [form.split() for form in (
     'delete N', 'evict', 'hand N', 'cut N set N P N N', 'cut N delete N',
     'cut N evict', 'list B', 'poke slots N N', 'poke counters N N',
     'poke items N N', 'dump', 'slots W ..', 'counters W ..', 'items N ..', 'judge',
-    '')]
+    'plan N P N N', 'move N N N N P N N', 'enter N N N P N N', '')]
 MOST = {'N': TOP, 'P': 2**32 - 1, 'B': BUFFER_MAX, 'W': 2**32 - 1}
 
 
@@ -383,7 +428,7 @@ class Replay:
         name, rest, t = call[0], call[1:], self.table
         if name == 'cut':
             return self.stores(rest[1], rest[2:], rest[0])
-        if name in ('set', 'delete', 'evict'):
+        if name in ('set', 'delete', 'evict', 'move', 'enter'):
             return self.stores(name, rest, TOP)
         if name in ('read', 'serve'):
             answer, stores = t.read(*rest, serve=name == 'serve')
@@ -391,6 +436,8 @@ class Replay:
             return answer
         if name == 'plain':
             return t.plain(*rest)
+        if name == 'plan':
+            return t.plan(*rest)
         if name == 'fresh':
             held = all(length <= most for length, most in zip(rest, HOLDS.values()))
             if not held or not good_shape(*rest):
@@ -421,14 +468,12 @@ class Replay:
                          for run in HOLDS)
 
     def stores(self, name, rest, k):
-        """Set, delete or evict, of which the first k stores are made."""
+        """A call with a list of stores, of which the first k are made."""
         t = self.table
-        if name == 'set':
-            answer, stores = t.set(*rest)
-        elif name == 'delete':
-            answer, stores = t.delete(*rest)
-        else:
+        if name == 'evict':
             answer, stores, self.hand = t.evict(self.hand)
+        else:
+            answer, stores = getattr(t, name)(*rest)
         t.make(stores, k)
         return answer
 

@@ -8,8 +8,10 @@
 The status must be 2 if some line is not understood, else 0. A file on which they differ is kept in target/.
 And a table that finished calls have made, from fresh or from one that was judged good, must be judged good; where plain
 and read ask the same on it, one right behind the other, their answers must be the same; and what is left is 0 or more
-where fresh, below 0 where old, and in its range. All is told by the replay program's answers alone.
+where fresh, below 0 where old, and in its range. A step changes nobody's answer on such a table but of whom it enters.
+All is told by the replay program's answers alone.
 """
+import collections
 import pathlib
 import random
 import re
@@ -23,12 +25,15 @@ import check  # noqa: E402
 
 MARK = b'\xef\xbb\xbf'
 WORDS = b'fresh set read serve plain delete evict hand cut list poke dump slots counters items judge'.split()
+WORDS += b'plan move enter'.split()
 WORDS += [b'standing']  # no word of the language any more
 WHOLE = 1024 + 7  # the most stores that a call can have to make: an evict that clears every place of the largest table
 PAIRS = {True: [0, 0], False: [0, 0]}  # plain beside read, on good tables and on others: all, the unlike
 VERDICTS = dict.fromkeys(['yes', *('no %d' % n for n in range(1, 9))], 0)
 FAR = 2**62  # minutes overdue; beyond them the answer stays the same
 LEFT = dict.fromkeys(['the whole limit', 'limit 0', '1', '0', '-1', '-2^62 + 1', '-2^62'], 0)  # answers that tell so
+STEPS = collections.Counter()  # the answers of plan, move and enter
+AROUND = {True: 0, False: 0}  # the same question before and after a step, on good tables and on others
 RETIRED = dict.fromkeys(['read', 'serve', 'plain', 'set', 'delete'], 0)  # of a standing entry, and not refused
 
 
@@ -38,10 +43,14 @@ def run(command, data):
 
 
 def unlike(echoed):
-    """Counts the verdicts and the pairs; the first no, or pair with two answers, on a good table, if there is one."""
-    clean, before = False, None
+    """Counts verdicts, pairs and steps; the first no, or pair with two answers, on a good table, if there is one."""
+    clean, earlier, before = False, None, None
     for line in re.findall(rb'^\d+: (.*) -> (.*)$', echoed, re.M):
         call, answer = line[0].split(b' '), line[1]
+        if earlier and earlier[0] == call and call[0] == b'read' and before[1] in (b'moved', b'entered'):
+            AROUND[clean] += 1
+            if clean and earlier[1] != answer and (before[1] == b'moved' or before[0][3] != call[1]):
+                return 'a step changes an answer: %r, and %r is %r' % (b' '.join(before[0]), b' '.join(call), answer)
         if before and {before[0][0], call[0]} == {b'read', b'plain'} and before[0][1:] == call[1:]:
             PAIRS[clean][0] += 1
             PAIRS[clean][1] += before[1] != answer
@@ -55,7 +64,10 @@ def unlike(echoed):
             clean = True
         elif answer in (b'poked', b'loaded') or call[0] == b'cut' and int(call[1]) < WHOLE:
             clean = False
-        before = call, answer
+        earlier, before = before, (call, answer)
+        if call[0] in (b'plan', b'move', b'enter'):
+            moves = b'%d moves' % (answer.count(b' ') // 3)
+            STEPS[(call[0] + b': ' + (moves if answer.startswith(b'planned') else answer)).decode()] += 1
     return None
 
 
@@ -109,20 +121,30 @@ class Day:
 
     def __init__(self, seed):
         self.r = random.Random(seed)
+        self.crowd = self.one_in(2)  # a table that is nearly full, so that plans have moves
         self.pool = [self.r.choice([n + 1, self.r.getrandbits(64), self.of_any_length(), self.of_any_length()])
-                     for n in range(self.r.choice([6, 30, 90]))]
+                     for n in range(120 if self.crowd else self.r.choice([6, 30, 90]))]
         self.now = self.r.choice([0, 100, 2**40])
         self.last, self.issues = self.pool[0], {}  # the animal of the last set; each animal's last minute of issue
         self.coming = []  # the calls that are to follow
+        self.far = 0  # how many plans are to follow on a table where they have many moves
         self.there = check.Replay()  # the table as it stands after the lines so far
         # With cuts most calls are refused 8, so some days have pokes alone, to reach what comes after 8.
-        self.cuts, self.pokes = self.r.choice([(False, False), (False, True), (True, True)])
+        self.cuts, self.pokes = self.r.choice([(False, False), (False, True), (not self.crowd, True)])
         self.before = not self.one_in(3)  # a cabinet from before version 4, with standing permissions
         self.shape()
 
     def shape(self):
         r = self.r
         self.n, self.v, self.m = 2 << r.randrange(4), r.choice([1, 2, 3, 8]), r.choice([1, 3, 9, 70, 70])
+        if self.crowd:
+            self.n = r.choice([4, 8, 16])
+            self.m = 4 * self.n + r.choice([-2, 1, 3])
+
+    def begun(self):
+        """The line that makes a table; a crowd comes at once."""
+        came = self.r.sample(self.pool, min(len(self.pool), 4 * self.n)) if self.crowd else []
+        return [['fresh', 4 * self.n, self.v, 4 * self.m], *(['set', one, 1, self.now, self.now] for one in came)]
 
     def one_in(self, n):
         return self.r.randrange(n) == 0
@@ -165,16 +187,24 @@ class Day:
         late = r.choice([0, 0, 0, r.randrange(60), r.randrange(60), r.randrange(3000), -1, now - r.randrange(3)])
         return min(max(0, now - late), 2**64 - 1)
 
-    def set(self):
+    def inputs(self):
+        """What a set takes, and a step too."""
         animal, now = self.animal(), self.minute()
         issued = self.issued(animal, now)
         now = now if self.one_in(5) else max(issued, now)
+        return [animal, self.r.choice([0, 1, 2, 3, 2**32 - 1]), issued, now]
+
+    def noted(self, call):
+        """The call, of an animal that it may store, and that is asked for later."""
+        animal, _, issued, now = call[-4:]
         self.last = animal or self.last
         if issued <= now < 2**64 - 1:
             self.issues.pop(animal, None)
             self.issues[animal] = issued  # the last to be set stands last
-        line = ['set', animal, self.r.choice([0, 1, 2, 3, 2**32 - 1]), issued, now]
-        return line + ['standing'] * self.one_in(50)  # not understood, since version 4
+        return call
+
+    def set(self):
+        return self.noted(['set', *self.inputs()]) + ['standing'] * self.one_in(50)  # not understood, since version 4
 
     def write(self):
         """A set, delete or evict."""
@@ -200,6 +230,124 @@ class Day:
         first, second = self.r.sample(['read', 'plain'], 2)
         self.coming = [[second, animal, limit, now]]
         return [first, animal, limit, now]
+
+    def well_shaped(self):
+        return check.good_shape(*(len(getattr(self.there.table, run)) for run in check.HOLDS))
+
+    def led_to(self, slot):
+        """The animal that the slot's word leads to."""
+        t = self.there.table
+        return t.items[t.slots[slot] % 65536 * 4] or 1
+
+    def far_apart(self):
+        """A large table whose slots are taken by any tags, all but one or two: a way to these is long."""
+        r, n = self.r, self.r.choice([32, 64, 128])
+        slots = [r.randrange(1, 256) << 16 | r.randrange(8) for _ in range(4 * n)]
+        for slot in r.sample(range(4 * n), r.choice([1, 2])):
+            slots[slot] = 0
+        items = [word for _ in range(5) for word in (r.choice(self.pool), 1, 1, 1)] + [0] * 12
+        self.far = 5
+        return [['slots', *slots], ['counters', *[0] * r.choice([1, 8, 100])], ['items', *items]]
+
+    def planned(self, inputs):
+        """The numbers of the plan; none where it is refused."""
+        try:
+            return [int(number) for number in self.there.table.plan(*inputs).split(' ')[1:]]
+        except check.Refused:
+            return []
+
+    def in_steps(self):
+        """A plan, and its steps. Other calls come between and overtake some; or it is compared with a set."""
+        r, back = self.r, self.loads(check.HOLDS)
+        wanted = [self.inputs() for _ in range(r.choice([1, 4]))]
+        numbers, inputs = max([(self.planned(one), one) for one in wanted], key=lambda both: len(both[0]))
+        lines = [['plan', *inputs]]
+        if not numbers:
+            return lines if self.well_shaped() else lines + self.begun()
+        steps = [['move', *numbers[at:at + 3], *inputs] for at in range(2, len(numbers), 3)]
+        steps.append(self.noted(['enter', *numbers[:2], *inputs]))
+        if self.one_in(5):
+            return [*lines, *steps, ['dump'], *back, ['set', *inputs], ['dump']]
+        for step in steps:
+            lines += [self.between(inputs) for _ in range(r.choice([0, 0, 0, 1, 2]))]
+            if self.one_in(8):  # other inputs than planned, of the same animal or of another
+                step[-4:] = self.inputs() if self.one_in(2) else [inputs[0], *self.inputs()[1:]]
+            asked = [['read', self.led_to(step[1]), 720, self.now]] if step[0] == 'move' and self.one_in(2) else []
+            lines += [*asked, *[step] * r.choice([0, 2, *[1] * 18]), *asked]  # now and then left out, or made twice
+        return lines + r.choice([[['judge']], [['judge']], [['plan', *inputs]], []])
+
+    def between(self, inputs):
+        """A call between the steps of these inputs."""
+        calls = [['serve', self.lately(), 720, self.minute()], ['judge'], ['plan', *inputs], ['set', *inputs], ['dump']]
+        return self.r.choice(calls) if self.one_in(2) else self.write()
+
+    def a_step(self):
+        """A step that would be made, or is wrong in one way, or meets a fault; or one of any numbers."""
+        r, t, inputs = self.r, self.there.table, self.inputs()
+        inputs[0] *= not self.one_in(20)
+        if not self.well_shaped() or self.one_in(8):
+            numbers = [r.choice([self.number(), r.randrange(1 + len(t.slots))]) for _ in range(3)]
+            return [r.choice([['move', *numbers, *inputs], ['enter', *numbers[:2], *inputs]])]
+        if self.pokes and self.one_in(8):
+            return self.damaged_source(inputs)
+        lines = self.an_enter(inputs) if self.one_in(2) else self.a_move(inputs)
+        changes = r.choice([self.hindrance(inputs[0]), self.fault(t)]) if self.pokes and self.one_in(2) else []
+        back = [(run, index, getattr(t, run)[index]) for run, index, _ in reversed(changes)]
+        return [*(['poke', *change] for change in changes), *lines, *(['poke', *change] for change in back)]
+
+    def hindrance(self, animal):
+        """An odd counter and a damaged word, or one of them; half of the time hers."""
+        r, t = self.r, self.there.table
+        counter, slot = r.randrange(len(t.counters)), r.randrange(len(t.slots))
+        if self.one_in(2):
+            counter, slot = t.counter_of(animal), r.choice(t.home_slots(animal))
+        both = [('counters', counter, 2 * r.randrange(2**31) + 1), ('slots', slot, r.randrange(1, 2**16))]
+        return r.choice([both, both[:1], both[1:]])
+
+    def an_enter(self, inputs):
+        r, t, hers = self.r, self.there.table, self.there.table.home_slots(inputs[0])
+        vacant = [p for p in range(t.m) if t.items[4 * p] == 0]
+        free = [s for s in hers if t.slots[s] == 0]
+        right = [r.choice(vacant or [0]), r.choice(free or hers)]
+        free = [s for s, word in enumerate(t.slots) if word == 0]
+        wrong = [[t.m, r.choice(t.live() or [0])], [len(t.slots), r.choice(hers), r.choice(free or hers)]]
+        return [self.noted(['enter', *self.slipped(right, wrong), *inputs])]
+
+    def a_move(self, inputs):
+        """One is asked for before and after it."""
+        r, t, slot = self.r, self.there.table, self.r.randrange(len(self.there.table.slots))
+        words = {s: word for s, word in enumerate(t.slots) if word != 0 and not t.damaged(word)}
+        free = [s for s, word in enumerate(t.slots) if word == 0]
+        if free and self.one_in(12):
+            words = {r.choice(free): 0}  # as if a free word were an entry of tag 0
+        ways = [[s, word >> 16, d] for s, word in words.items() for d in free if d // 4 == t.other(word >> 16, s // 4)]
+        if not ways:
+            return [['move', slot, t.slots[slot] >> 16, r.choice(free or [0]), *inputs]]
+        right = r.choice(ways)
+        beside = 4 * (right[2] // 4) + r.randrange(4)
+        wrong = [[len(t.slots), slot], [0, right[1] ^ 4], [len(t.slots), slot, right[0], beside, r.choice(free)]]
+        asked = ['read', r.choice([self.led_to(right[0]), self.lately()]), 720, self.now]
+        return [asked, ['move', *self.slipped(right, wrong), *inputs], asked]
+
+    def slipped(self, right, wrong):
+        """The right numbers, or with a wrong one in the place of one; that may be the right one, if it were cut."""
+        r, at, numbers = self.r, self.r.randrange(len(right)), list(right)
+        if not self.one_in(3):
+            longer = right[at] + 2**r.choice([8, 16, 32, 62])
+            numbers[at] = r.choice([*wrong[at], longer, longer, right[at] ^ 1 << r.randrange(8), self.number()])
+        return numbers
+
+    def damaged_source(self, inputs):
+        """A slot gets a damaged word, and a move from there fails by that alone; then it is put right again."""
+        r, t = self.r, self.there.table
+        source, tag = r.randrange(len(t.slots)), r.randrange(1, 256)
+        word = r.choice([r.randrange(1, 2**16), r.randrange(256, 2**16) << 16, 256 << 16, tag << 16 | t.m])
+        others = [s for s in range(4 * t.n) if s // 4 == t.other(word >> 16, source // 4)]
+        destination = r.choice([s for s in others if t.slots[s] == 0] or others)
+        strangers = [a for a in self.pool if source not in t.home_slots(a)]
+        inputs[0] = r.choice(strangers or [inputs[0]])
+        return [['poke', 'slots', source, word], ['move', source, word >> 16, destination, *inputs],
+                ['poke', 'slots', source, t.slots[source]]]
 
     def loads(self, runs, changes=()):
         """The lines that load these runs as they stand, with some words changed."""
@@ -273,7 +421,7 @@ class Day:
         """One or two faults, by pokes or by loaded runs, and the verdict; mostly they are mended then."""
         t = self.there.table
         if t.judge().startswith('no 1') or t.judge() != 'yes' and self.one_in(2):
-            return [['fresh', 4 * self.n, self.v, 4 * self.m], *(self.set() for _ in range(self.m // 2))]
+            return self.begun() + [self.set() for _ in range(self.m // 2)] * (not self.crowd)
         changes = self.fault(t) + (self.fault(t) if self.one_in(3) else [])
         runs = sorted({run for run, _, _ in changes})
         back = [(run, index, getattr(t, run)[index]) for run, index, _ in reversed(changes)]
@@ -299,8 +447,15 @@ class Day:
         if self.before and self.one_in(40) and self.there.table.live():
             self.coming = self.retired()
             return self.coming.pop(0)
+        if self.far or self.pokes and self.one_in(40):
+            self.coming = self.in_steps() if self.far > 1 else self.begun() if self.far else self.far_apart()
+            self.far = max(0, self.far - 1)
+            return self.coming.pop(0)
+        if self.one_in(2 if self.crowd else 5):
+            self.coming = self.a_step() if self.one_in(2) else self.in_steps()
+            return ['cut', r.randrange(9)] * self.one_in(20) + self.coming.pop(0)  # not understood
         if self.pokes and self.one_in(60):
-            self.coming = [['judge']] if self.one_in(2) else [['judge'], ['fresh', 4 * self.n, self.v, 4 * self.m]]
+            self.coming = [['judge']] if self.one_in(2) else [['judge'], *self.begun()]
             return self.a_run()
         if self.pokes and self.one_in(12):
             self.coming = self.faults()
@@ -317,6 +472,7 @@ class Day:
             return ['hand', r.choice([0, self.m - 1, self.m, self.number()])]
         if kind < 85 or kind < 88 and self.cuts:
             self.shape()
+            self.coming = self.begun()[1:]
             return ['fresh', self.length(4 * self.n), self.length(self.v), self.length(4 * self.m)]
         if kind < 94:
             self.coming = [['judge']] * self.one_in(2)
@@ -345,7 +501,7 @@ class Day:
     def misspelt(self, word):
         r, at = self.r, self.r.randrange(len(word) + 1)
         return r.choice([word.upper(), word.capitalize(), word[:at], word[:at] + word[at:at + 1] + word[at:],
-                         word + b's', word + b'\x00', MARK + word, r.choice(WORDS), b'judge', b'plan', b'\xff\xfe',
+                         word + b's', word + b'\x00', MARK + word, r.choice(WORDS), b'judge', b'office', b'\xff\xfe',
                          word + word])
 
     def spoilt(self, words):
@@ -406,7 +562,7 @@ class Day:
         r = self.r
         ends = r.choice([[b'\n'], [b'\r\n'], [b'\n', b'\n', b'\r\n']])
         if not self.one_in(6):
-            self.coming = [['fresh', 4 * self.n, self.v, 4 * self.m]]
+            self.coming = self.begun()
         parts = [r.choice([b'', b'', MARK]), self.line()]
         for _ in range(lines):
             parts += [r.choice(ends), self.line()]
@@ -436,6 +592,22 @@ def every_turn():
     return '\n'.join(lines + ['dump']).encode()
 
 
+def every_step():
+    """Each slot to each slot, each tag, each place with each slot; some words are damaged and some counters odd."""
+    table = ['slots 4063232 4063238 0 7 15138818 0 0 4063232 16318465 0 2686980 0 5636099 16777216 0 0',
+             'counters 5 4 7 0', 'items 1 1 100 1 3 1 100 1 28 1 100 1 2 1 100 1 0 0 7 0 0 0 0 0']
+    tags = [62, 62, 0, 0, 231, 0, 0, 62, 249, 0, 41, 0, 86, 256, 0, 0, 62]
+    tried = ['move %d %d %d' % (source, tags[source], to) for source in range(17) for to in range(17)]
+    tried += ['move 0 %d 14' % tag for tag in range(320)]
+    tried += ['enter %d %d' % (place, slot) for place in range(8) for slot in range(17)]
+    for more in 2**8, 2**16, 2**32, 2**48, 2**62, 2**63:  # what would be good if it were cut
+        tried += ['move %d 62 14' % more, 'move 0 %d 14' % (62 + more), 'move 0 62 %d' % (14 + more)]
+        tried += ['enter %d 5' % (4 + more), 'enter 4 %d' % (5 + more)]
+    # 40 and 28 have buckets 1 and 2, and 28 is held; the buckets of 37 have damaged words, and its counter is odd.
+    asked = [line + ' %d 1 110 110' % animal for animal in (40, 28, 37) for line in tried]
+    return '\n'.join(line for one in asked for line in (*table, one, 'dump')).encode()
+
+
 def every_length():
     """Each run at and about the edges of its length and of what the program holds, and the verdict on it."""
     lines = []
@@ -451,12 +623,15 @@ def fresh_lines(seed, files, lines):
              MARK + MARK + b'dump', MARK[:1], MARK[:2] + b'dump', b'\n' + MARK + b'dump', b' ' + MARK + b'dump\n',
              b'dump' + MARK, b'plain 0 10081 1\nfresh 8 1 4\nplain 0 10081 1\ncut 1 plain 1 1 1', b'judge', b'slots',
              b'judge\nslots # 1\njudge\nslots' + b' 0' * 8 + b'\njudge\ncounters 0\njudge\nitems 0 0 0 0\njudge\ndump',
+             b'plan 0 1 2 1\nmove 9 9 9 0 1 2 1\nenter 9 9 0 1 2 1\ncut 1 plan 1 1 1 1\ncut 9 enter 9 9 1 1 1 1',
              b'fresh 8 1 4\nset 1 1 1 1 standing\ncut 9 set 1 1 1 1 standing#\nset 1 1 1 standing\nread 1 1 1']
     for n, data in enumerate(edges):
         compare('edge %d' % n, data)
     compare('every turn', every_turn())
     compare('every length', every_length())
+    compare('every step', every_step())
     VERDICTS.update(dict.fromkeys(VERDICTS, 0))
+    STEPS.clear()
     LEFT.update(dict.fromkeys(LEFT, 0))  # of the random lines alone it is told what they met
     answers = sum(compare('seed %d file %d' % (seed, n), Day('%d %d' % (seed, n)).text(lines)) for n in range(files))
     print('seed %d: %d files of %d lines, %d lines of answers, no difference' % (seed, files, lines, answers))
@@ -464,6 +639,8 @@ def fresh_lines(seed, files, lines):
           % (PAIRS[True][0], *PAIRS[False]))
     print('judged: ' + ', '.join('%s %d' % told for told in VERDICTS.items()))
     print('left: ' + ', '.join('%s %d' % told for told in LEFT.items()))
+    print('steps: ' + ', '.join('%s %d' % told for told in sorted(STEPS.items())))
+    print('asked before and after a step: %d on good tables, all alike; %d on others' % (AROUND[True], AROUND[False]))
     print('retired: ' + ', '.join('%s %d' % told for told in RETIRED.items()))
     if not PAIRS[True][0]:
         sys.exit('too few lines: plain and read were never compared')
