@@ -25,6 +25,7 @@ pub mod Room
 pub mod Positions
 pub mod Search
 pub mod Sources
+pub mod PlanSaid
 -- Pillar WORDS: a block keeps a table well-formed; a read finds what a walk over the places finds
 pub mod MovedWords
 pub mod KeepBlocks

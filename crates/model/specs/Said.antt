@@ -4,7 +4,7 @@ use mathlib.Core.List.{List, _++_}
 use lib.ListN.{length, take, drop}
 use Rattle.model.specs.Choice.{choose}
 use Rattle.model.specs.Moves.{four-records}
-use Rattle.model.specs.Answers.{is, paper, value, moves-told, Answer, refused, absent, fresh, old, ahead, stored, deleted, evicted, started, listed, at-place, move-made, entry-made}
+use Rattle.model.specs.Answers.{is, paper, value, moves-told, Answer, refused, absent, fresh, old, ahead, stored, deleted, evicted, started, listed, at-place, planned, move-made, entry-made}
 use Rattle.model.specs.declared.Reading.{Reading}
 use Rattle.model.specs.declared.Reading.the-variants as reading
 use Rattle.model.specs.declared.Finding.{Finding}
@@ -12,7 +12,9 @@ use Rattle.model.specs.declared.Finding.the-variants as finding
 use Rattle.model.specs.declared.Setting.{Setting}
 use Rattle.model.specs.declared.Setting.the-variants as setting
 use Rattle.model.specs.declared.Plan.{Plan}
+use Rattle.model.specs.declared.Planning.{Planning}
 use Rattle.model.specs.declared.Planning.the-variants as planning
+use Rattle.model.specs.declared.MoveRecord.{MoveRecord}
 use Rattle.model.specs.declared.Stepping.{Stepping}
 use Rattle.model.specs.declared.Stepping.the-variants as stepping
 use Rattle.model.specs.declared.Deleting.{Deleting}
@@ -53,6 +55,14 @@ plan-of a =
       place = value a 1;
       slot = value a 2;
     }
+
+-- and back: what such a plan says
+abbrev pub said-planning : Planning → List MoveRecord → ℕ → ℕ → Answer
+said-planning planning.Planned vs p i = planned vs p i
+said-planning (planning.Refused n) vs p i = refused n
+
+abbrev pub said-plan : Plan → Answer
+said-plan b = said-planning (b .told) (take (b .count) (b .moves)) (b .place) (b .slot)
 
 -- a step: a move, or the final store
 abbrev pub said-move : Stepping → Answer

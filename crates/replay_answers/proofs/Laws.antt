@@ -1,10 +1,10 @@
 -- Laws on the lines of answers. Assumes nothing.
-use Prim.Native.Nat.{ℕ, _+_, _*_, _≤_}
+use Prim.Native.Nat.{ℕ, zero, suc, _+_, _*_, _≤_}
 use native.Mathlib.Omega.{arith}
-use mathlib.Core.Path.{_≡_, sym, _∙_}
+use mathlib.Core.Path.{_≡_, refl, sym, _∙_}
 use mathlib.Core.Logic.{_≢_}
-use mathlib.Core.List.{List, [], _++_, append-assoc}
-use lib.ListN.{length, take}
+use mathlib.Core.List.{List, [], _∷_, _++_, append-assoc}
+use lib.ListN.{length, getD, take}
 use lib.Seq.{length-take-le}
 use lib.IntN.{ℤ}
 use borrow.Author.Tests.{ne-eqb}
@@ -12,9 +12,14 @@ use mir.Syntax.{w64}
 use mir.Val.{SFits, ofZ, toZ}
 use mir.ValLaws.{toZ-ofZ}
 use Rattle.model.specs.Memory.{Mem}
-use Rattle.model.specs.Said.{said-reading}
+use Rattle.model.specs.Moves.{no-move}
+use Rattle.model.specs.Answers.{planned, record-numbers, refused}
+use Rattle.model.specs.Said.{said-plan, said-reading}
 use Rattle.model.specs.declared.Reading.{Reading}
 use Rattle.model.specs.declared.Reading.the-variants as reading
+use Rattle.model.specs.declared.MoveRecord.{MoveRecord}
+use Rattle.model.specs.declared.Plan.{Plan}
+use Rattle.model.specs.declared.Planning.the-variants as planning
 use Rattle.model.specs.declared.Listing.{Listing}
 use Rattle.model.specs.declared.Listing.the-variants.{Listed}
 use Rattle.buffer.specs.Put.{Put}
@@ -37,6 +42,25 @@ signed-behind : (words : List ℕ) (z : ℤ) → signed-line words z ≡ words +
 signed-behind words z =
     append-assoc (words ++ bytes " ") (signed-of z) (bytes "\n") ∙ append-assoc words (bytes " ") (signed-of z ++ bytes "\n")
 
+-- the numbers of four moves, and of the first n of them
+abbrev of-four : List MoveRecord → List ℕ
+of-four vs =
+    getD vs 0 no-move .from ∷ getD vs 0 no-move .tag ∷ getD vs 0 no-move .to ∷ getD vs 1 no-move .from ∷ getD vs 1 no-move .tag ∷ getD vs 1 no-move .to
+    ∷ getD vs 2 no-move .from ∷ getD vs 2 no-move .tag ∷ getD vs 2 no-move .to ∷ getD vs 3 no-move .from ∷ getD vs 3 no-move .tag ∷ getD vs 3 no-move .to ∷ []
+
+all-four : (vs : List MoveRecord) → length vs ≡ 4 → of-four vs ≡ record-numbers vs
+all-four [] e = absurd (omega arith)
+all-four (a ∷ []) e = absurd (omega arith)
+all-four (a ∷ b ∷ []) e = absurd (omega arith)
+all-four (a ∷ b ∷ c ∷ []) e = absurd (omega arith)
+all-four (a ∷ b ∷ c ∷ d ∷ []) e = refl
+all-four (a ∷ b ∷ c ∷ d ∷ f ∷ vs) e = absurd (omega arith)
+
+first-few : (vs : List MoveRecord) (n : ℕ) → take (3 * n) (record-numbers vs) ≡ record-numbers (take n vs)
+first-few vs zero = refl
+first-few [] (suc n) = let e : 3 * suc n ≡ suc (suc (suc (3 * n))) = omega arith in rw e
+first-few (v ∷ vs) (suc n) = let e : 3 * suc n ≡ suc (suc (suc (3 * n))) = omega arith in rw (e, first-few vs n)
+
 module _ {at r : ℕ} {before after : List ℕ} where
   -- a line of words is short
   pub short : (k : ℕ) (words : List ℕ) → Put (line words) at before after r → length (line words) ≤ k → r ≤ at + k
@@ -50,6 +74,19 @@ module _ {at r : ℕ} {before after : List ℕ} where
 
     pub told-old : said ≡ reading.Old z → Put (signed-line (bytes "old") (toZ w64 (ofZ w64 z))) at before after r → Put (text (said-reading said)) at before after r
     told-old e q = rw e (rw (toZ-ofZ w64 z f) at q)
+
+  -- a plan, as the code holds its numbers
+  pub told-numbers : (vs : List MoveRecord) (n p i : ℕ) → length vs ≡ 4 → Put (told (bytes "planned") (take (2 + 3 * n) (p ∷ i ∷ of-four vs))) at before after r
+      → Put (text (planned (take n vs) p i)) at before after r
+  told-numbers vs n p i l q = let f : 2 + 3 * n ≡ suc (suc (3 * n)) = omega arith in rw (← first-few vs n, ← all-four vs l) (rw f at q)
+
+  module _ (b : Plan) where
+    pub told-plan : b .told ≡ planning.Planned → Put (text (planned (take (b .count) (b .moves)) (b .place) (b .slot))) at before after r
+        → Put (text (said-plan b)) at before after r
+    told-plan e p = rw e p
+
+    pub told-no-plan : {n : ℕ} → b .told ≡ planning.Refused n → Put (text (refused n)) at before after r → Put (text (said-plan b)) at before after r
+    told-no-plan e p = rw e p
 
   pub put-line-number : {first second : List ℕ} {s t : ℕ} (n y : ℕ) → Put (numbered (bytes "line") n) at before first s
       → Put (bytes ": not understood: ") s first second t → Put (line (reason y)) t second after r → Put (not-understood n y) at before after r
@@ -82,6 +119,20 @@ put-runs m p q l = put-both (put-both p q) l
 -- the front of a run has the length that it is cut to
 pub front : (n : ℕ) (run : List ℕ) → n ≤ length run → n ≡ length (take n run)
 front n run h = sym (length-take-le n run h)
+
+-- and is no longer
+front-short : (n : ℕ) (run : List ℕ) → length (take n run) ≤ n
+front-short zero run = omega arith
+front-short (suc n) [] = omega arith
+front-short (suc n) (x ∷ run) = let h = front-short n run in omega arith
+
+-- so the line of a plan is
+module _ (at n : ℕ) (run : List ℕ) where
+  pub plan-room : (out : List ℕ) → n ≤ 14 → at + 384 ≤ length out → at + 7 + 21 * length (take n run) + 1 ≤ length out
+  plan-room out h k = omega (arith, front-short n run)
+
+  pub plan-short : {r : ℕ} → r ≤ at + 7 + 21 * length (take n run) + 1 → n ≤ 14 → r ≤ at + 384
+  plan-short k h = omega (arith, front-short n run)
 
 -- the records that a list counts are there
 pub counted-in : {said : Listing} {n : ℕ} (bs : List ℕ) → said ≡ Listed n → Counted said bs → 20 * n ≤ length bs

@@ -6,7 +6,7 @@ use lib.ListN.{length}
 use lib.Dec.{eqb}
 use Rattle.model.specs.Choice.{choose}
 use Rattle.model.specs.Memory.{Mem}
-use Rattle.model.specs.Answers.{Answer, refused, absent, fresh, old, ahead, stored, deleted, evicted, started, listed, at-place}
+use Rattle.model.specs.Answers.{Answer, refused, absent, fresh, old, ahead, stored, deleted, evicted, started, listed, at-place, planned, move-made, entry-made, record-numbers}
 use Rattle.model.specs.declared.Listing.{Listing}
 use Rattle.model.specs.declared.Listing.the-variants as list
 use Rattle.judgement.specs.Verdict.{Verdict, sound, broken}
@@ -26,6 +26,9 @@ text (evicted x n h) = told (bytes "evicted") (x ∷ n ∷ h ∷ [])
 text started = line (bytes "fresh")
 text (listed n bs) = told (bytes "listed") (n ∷ []) ++ record-lines n bs
 text (at-place p) = told (bytes "place") (p ∷ [])
+text (planned vs p i) = told (bytes "planned") (p ∷ i ∷ record-numbers vs)
+text move-made = line (bytes "moved")
+text entry-made = line (bytes "entered")
 
 -- the records of a list are there, 20 bytes each
 abbrev pub Counted : Listing → List ℕ → Type 0

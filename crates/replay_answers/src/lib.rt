@@ -3,8 +3,8 @@ ghost use Prim.Native.Nat.{_+_, _*_, _≤_};
 ghost use lib.ListN.{length, take};
 ghost use Rattle.buffer.specs.Put.{Put};
 ghost use Rattle.model.specs.Memory.{mem};
-ghost use Rattle.model.specs.Answers.{listed, refused};
-ghost use Rattle.model.specs.Said.{said-reading, said-setting, said-deleting, said-evicting, said-listing, said-starting};
+ghost use Rattle.model.specs.Answers.{listed, planned, refused};
+ghost use Rattle.model.specs.Said.{said-reading, said-setting, said-plan, said-move, said-entry, said-deleting, said-evicting, said-listing, said-starting};
 ghost use Rattle.judgement.specs.Said.{said as said-judgement};
 ghost use Rattle.replay_answers.specs.Text.{text, Counted, reason, not-understood, dump, judged, poke-told};
 ghost use Rattle.replay_print.specs.Print.{line};
@@ -12,9 +12,13 @@ use judgement::Judgement;
 use model::Deleting;
 use model::Evicting;
 use model::Listing;
+use model::MoveRecord;
+use model::Plan;
+use model::Planning;
 use model::Reading;
 use model::Setting;
 use model::Starting;
+use model::Stepping;
 
 pub fn put_refused(buffer: &mut [u8], at: usize, n: u64) -> usize
     requires { ⌜ at + 384 ≤ length (now buffer) ⌝ }
@@ -50,6 +54,78 @@ pub fn put_setting(buffer: &mut [u8], at: usize, said: Setting) -> usize
             replay_print::put_told(buffer, at, b"stored", &numbers)
         }
         Setting::Refused(n) => put_refused(buffer, at, n as u64),
+    }
+}
+
+// A plan's line: the place and the slot, and then the numbers of its moves.
+fn put_planned(
+    buffer: &mut [u8],
+    at: usize,
+    moves: [MoveRecord; 4],
+    count: usize,
+    place: usize,
+    slot: usize,
+) -> usize
+    requires { ⌜ (at + 384 ≤ length (now buffer)) × (count ≤ 4) ⌝ }
+    ensures { λ r. ⌜ Put (text (planned (take count moves) place slot)) at (now (buffer .entry)) (now (buffer .exit)) r × (r ≤ at + 384) ⌝ }
+{
+    let a = moves[0];
+    let b = moves[1];
+    let c = moves[2];
+    let d = moves[3];
+    let numbers = [
+        place as u64,
+        slot as u64,
+        a.from as u64,
+        a.tag as u64,
+        a.to as u64,
+        b.from as u64,
+        b.tag as u64,
+        b.to as u64,
+        c.from as u64,
+        c.tag as u64,
+        c.to as u64,
+        d.from as u64,
+        d.tag as u64,
+        d.to as u64,
+    ];
+    let end = 2 + 3 * count;
+    replay_print::put_told(buffer, at, b"planned", &numbers[..end])
+}
+
+pub fn put_plan(buffer: &mut [u8], at: usize, plan: Plan) -> usize
+    requires { ⌜ (at + 384 ≤ length (now buffer)) × (plan .count ≤ 4) ⌝ }
+    ensures { λ r. ⌜ Put (text (said-plan plan)) at (now (buffer .entry)) (now (buffer .exit)) r × (r ≤ at + 384) ⌝ }
+{
+    let told = plan.told;
+    match told {
+        Planning::Planned => {
+            let moves = plan.moves;
+            put_planned(buffer, at, moves, plan.count, plan.place, plan.slot)
+        }
+        Planning::Refused(n) => put_refused(buffer, at, n as u64),
+    }
+}
+
+// One whole move.
+pub fn put_moved(buffer: &mut [u8], at: usize, said: Stepping) -> usize
+    requires { ⌜ at + 384 ≤ length (now buffer) ⌝ }
+    ensures { λ r. ⌜ Put (text (said-move said)) at (now (buffer .entry)) (now (buffer .exit)) r × (r ≤ at + 384) ⌝ }
+{
+    match said {
+        Stepping::Made => replay_print::put_line(buffer, at, b"moved"),
+        Stepping::Refused(n) => put_refused(buffer, at, n as u64),
+    }
+}
+
+// The final store.
+pub fn put_entered(buffer: &mut [u8], at: usize, said: Stepping) -> usize
+    requires { ⌜ at + 384 ≤ length (now buffer) ⌝ }
+    ensures { λ r. ⌜ Put (text (said-entry said)) at (now (buffer .entry)) (now (buffer .exit)) r × (r ≤ at + 384) ⌝ }
+{
+    match said {
+        Stepping::Made => replay_print::put_line(buffer, at, b"entered"),
+        Stepping::Refused(n) => put_refused(buffer, at, n as u64),
     }
 }
 
