@@ -12,7 +12,7 @@ use Rattle.model.specs.Visits.{climb, first-free, free-slot, hops, lowest, next
 use Rattle.model.specs.Age.{is-fresh, left-of, verdict}
 use Rattle.model.specs.Clock.{next-hand, passed-recent, seek-victim}
 use Rattle.model.specs.Listing.{list-record, listing, live-count, records}
-use Rattle.model.specs.Calls.{hit, hits, slot-of, some-live, vacant-place}
+use Rattle.model.specs.Calls.{hit, hits, may-enter, may-move, slot-of, some-live, vacant-place}
 use Rattle.model.specs.Stores.{stores}
 use Rattle.model.specs.Row.{walk-to}
 use Rattle.plain.specs.Plain.{plain-read}
@@ -55,38 +55,48 @@ pub understood :
     × (said language (bytes "dump") ≡ row 13 ([]))
     × (said language (bytes "plain 1 2 3") ≡ row 15 (1 ∷ 2 ∷ 3 ∷ []))
     × (said language (bytes "judge") ≡ row 16 ([]))
-    × (said language (bytes "# set 7 15 20 30") ≡ row 17 ([]))
+    × (said language (bytes "plan 1 2 3 4") ≡ row 17 (1 ∷ 2 ∷ 3 ∷ 4 ∷ []))
+    × (said language (bytes "move 1 18446744073709551615 3 4 5 6 7") ≡ row 18 (1 ∷ 18446744073709551615 ∷ 3 ∷ 4 ∷ 5 ∷ 6 ∷ 7 ∷ []))
+    × (said language (bytes "enter 1 2 3 4 5 6") ≡ row 19 (1 ∷ 2 ∷ 3 ∷ 4 ∷ 5 ∷ 6 ∷ []))
+    × (said language (bytes "# set 7 15 20 30") ≡ row 20 ([]))
 unfolding said said-by first-row fitting taken bound lines words pieces filled before same number number-from value all-digits without-comment without-return
-understood = (refl, refl, refl, refl, refl, refl, refl, refl, refl, refl, refl, refl, refl, refl, refl, refl, refl, refl, refl, refl)
+understood = (refl, refl, refl, refl, refl, refl, refl, refl, refl, refl, refl, refl, refl, refl, refl, refl, refl, refl, refl, refl, refl, refl, refl)
 
--- no row fits: there are 18, and the number is the reason
+-- no row fits: there are 21, and the number is the reason
 pub not-understood :
-    (said language (bytes "hand 18446744073709551616") ≡ row 18 (3 ∷ []))
-    × (said language (bytes "hand +1") ≡ row 18 (0 ∷ []))
-    × (said language (bytes "hand 1a") ≡ row 18 (0 ∷ []))
-    × (said language (bytes "hand") ≡ row 18 (1 ∷ []))
-    × (said language (bytes "hand 1 1") ≡ row 18 (2 ∷ []))
-    × (said language (bytes "set 1 4294967296 2 3") ≡ row 18 (3 ∷ []))
-    × (said language (bytes "set 1 2 3 4 standing") ≡ row 18 (0 ∷ []))
-    × (said language (bytes "set 1 2 3 4 standing 5") ≡ row 18 (0 ∷ []))
-    × (said language (bytes "cut 5 set 1 2 3 4 standing") ≡ row 18 (0 ∷ []))
-    × (said language (bytes "set 1 2 3 standing") ≡ row 18 (0 ∷ []))
-    × (said language (bytes "set 1 2 3") ≡ row 18 (1 ∷ []))
-    × (said language (bytes "fresh 1 2") ≡ row 18 (1 ∷ []))
-    × (said language (bytes "evict 1") ≡ row 18 (2 ∷ []))
-    × (said language (bytes "Dump") ≡ row 18 (0 ∷ []))
-    × (said language (bytes "dumps") ≡ row 18 (0 ∷ []))
-    × (said language (bytes "dump\r\r") ≡ row 18 (0 ∷ []))
-    × (said language (bytes "cut 5 read 1 2 3") ≡ row 18 (0 ∷ []))
-    × (said language (bytes "cut evict") ≡ row 18 (0 ∷ []))
-    × (said language (bytes "list 81921 5") ≡ row 18 (3 ∷ []))
-    × (said language (bytes "poke") ≡ row 18 (1 ∷ []))
-    × (said language (bytes "12 13") ≡ row 18 (0 ∷ []))
-    × (said language (bytes "poke 0 9") ≡ row 18 (0 ∷ []))
-    × (said language (bytes "plain 1 2") ≡ row 18 (1 ∷ []))
-    × (said language (bytes "cut 5 plain 1 2 3") ≡ row 18 (0 ∷ []))
+    (said language (bytes "hand 18446744073709551616") ≡ row 21 (3 ∷ []))
+    × (said language (bytes "hand +1") ≡ row 21 (0 ∷ []))
+    × (said language (bytes "hand 1a") ≡ row 21 (0 ∷ []))
+    × (said language (bytes "hand") ≡ row 21 (1 ∷ []))
+    × (said language (bytes "hand 1 1") ≡ row 21 (2 ∷ []))
+    × (said language (bytes "set 1 4294967296 2 3") ≡ row 21 (3 ∷ []))
+    × (said language (bytes "set 1 2 3 4 standing") ≡ row 21 (0 ∷ []))
+    × (said language (bytes "set 1 2 3 4 standing 5") ≡ row 21 (0 ∷ []))
+    × (said language (bytes "cut 5 set 1 2 3 4 standing") ≡ row 21 (0 ∷ []))
+    × (said language (bytes "set 1 2 3 standing") ≡ row 21 (0 ∷ []))
+    × (said language (bytes "set 1 2 3") ≡ row 21 (1 ∷ []))
+    × (said language (bytes "fresh 1 2") ≡ row 21 (1 ∷ []))
+    × (said language (bytes "evict 1") ≡ row 21 (2 ∷ []))
+    × (said language (bytes "Dump") ≡ row 21 (0 ∷ []))
+    × (said language (bytes "dumps") ≡ row 21 (0 ∷ []))
+    × (said language (bytes "dump\r\r") ≡ row 21 (0 ∷ []))
+    × (said language (bytes "cut 5 read 1 2 3") ≡ row 21 (0 ∷ []))
+    × (said language (bytes "cut evict") ≡ row 21 (0 ∷ []))
+    × (said language (bytes "list 81921 5") ≡ row 21 (3 ∷ []))
+    × (said language (bytes "poke") ≡ row 21 (1 ∷ []))
+    × (said language (bytes "12 13") ≡ row 21 (0 ∷ []))
+    × (said language (bytes "poke 0 9") ≡ row 21 (0 ∷ []))
+    × (said language (bytes "plain 1 2") ≡ row 21 (1 ∷ []))
+    × (said language (bytes "cut 5 plain 1 2 3") ≡ row 21 (0 ∷ []))
+    × (said language (bytes "cut 3 plan 1 2 3 4") ≡ row 21 (0 ∷ []))
+    × (said language (bytes "plan 1 4294967296 2 3") ≡ row 21 (3 ∷ []))
+    × (said language (bytes "move 1 2 3 4 4294967296 5 6") ≡ row 21 (3 ∷ []))
+    × (said language (bytes "enter 0 0 4711 4294967296 5 5") ≡ row 21 (3 ∷ []))
+    × (said language (bytes "move 1 2 3 4 5 6") ≡ row 21 (1 ∷ []))
+    × (said language (bytes "move 1 2 3 4 5 6 7 8") ≡ row 21 (2 ∷ []))
+    × (said language (bytes "enter 1 2 -3 4 5 6") ≡ row 21 (0 ∷ []))
 unfolding said said-by first-row fitting taken bound lines words pieces filled before same number number-from value all-digits without-comment without-return why-not furthest parting takes behind instead
-not-understood = (refl, refl, refl, refl, refl, refl, refl, refl, refl, refl, refl, refl, refl, refl, refl, refl, refl, refl, refl, refl, refl, refl, refl, refl)
+not-understood = (refl, refl, refl, refl, refl, refl, refl, refl, refl, refl, refl, refl, refl, refl, refl, refl, refl, refl, refl, refl, refl, refl, refl, refl, refl, refl, refl, refl, refl, refl, refl)
 
 -- a cow that is set, read, served and deleted but for one store; another that stays, and whose entry is retired; and what is answered to the rest
 abbrev day : List ℕ
@@ -105,6 +115,15 @@ pub dump-is-judged : answers false dump-judged
     ≡ bytes "no 1 0\nfresh\nyes\nstored 1 0\nyes\nstored 0 0\nno 3 0\npoked\npoked\npoked\nno 6 0\nline 12: not understood: too many numbers\n"
 unfolding judges judgement count names twin right-word is-stray is-unsought is-doubled is-misshapen replayed reply-to loading load-of run-named weighed loads-run shown meaning starts asks calls cuts turns cut-turns hands lists pokes-slots pokes-counters pokes-items audits plain-read walk-to said said-by first-row fitting taken bound why-not furthest parting takes behind instead lines words pieces filled before same number number-from value all-digits without-comment without-return without-mark mark-length told numbered reason decimal-of signed-of digits record-lines hexes hex-of hex-digit hash fnv fnv-step low-bytes tag-from odd-up spread other-bucket tag place damaged range first good-lengths good-slots good-counters good-items hits hit vacant-place some-live visits next-level hops first-free free-slot lowest climb is-fresh left-of verdict next-hand seek-victim passed-recent slot-of list-record records live-count listing stores
 dump-is-judged = refl
+
+-- a set in steps: a plan, its final store, a move that was in no plan; a tag that is right but for its 33rd bit, and who is held by now
+abbrev in-steps : List ℕ
+in-steps = bytes "fresh 8 1 8\nplan 1 5 2 3\nenter 0 0 1 5 2 3\nmove 0 62 4 7 5 2 3\nread 1 720 2\nmove 4 4294967358 0 7 5 2 3\nplan 1 5 2 3\nenter 1 0 1 5 2 3\nplan 7 1 3 3\nenter 1 18446744073709551615 7 1 3 3\nplan 7 4294967296 3 3\ndump"
+
+pub in-steps-answered : answers false in-steps
+    ≡ bytes "fresh\nplanned 0 0\nentered\nmoved\nfresh 5 720\nrefused 12\nrefused 12\nrefused 12\nplanned 1 0\nrefused 12\nline 11: not understood: number too large\nslots 0 0 0 0 4063232 0 0 0\ncounters 4\nitems 1 5 2 1 0 0 0 0\n"
+unfolding may-move may-enter replayed reply-to loading load-of run-named weighed loads-run shown meaning starts asks calls cuts turns cut-turns hands lists pokes-slots pokes-counters pokes-items audits plain-read walk-to said said-by first-row fitting taken bound why-not furthest parting takes behind instead lines words pieces filled before same number number-from value all-digits without-comment without-return without-mark mark-length told numbered reason decimal-of signed-of digits record-lines hexes hex-of hex-digit hash fnv fnv-step low-bytes tag-from odd-up spread other-bucket tag place damaged range first good-lengths good-slots good-counters good-items hits hit vacant-place some-live visits next-level hops first-free free-slot lowest climb is-fresh left-of verdict next-hand seek-victim passed-recent slot-of list-record records live-count listing stores
+in-steps-answered = refl
 
 -- a text behind a byte order mark, with the calls shown, and how many of its lines are not understood
 abbrev hour : List ℕ

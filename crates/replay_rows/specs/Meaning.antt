@@ -8,7 +8,7 @@ use lib.Dec.{leb}
 use Rattle.model.specs.Choice.{choose}
 use Rattle.model.specs.Memory.{Mem, mem}
 use Rattle.model.specs.Shape.{four, shape, good-lengths, fresh-memory}
-use Rattle.model.specs.Calling.{Call, grant, read, serve, set-animal, delete, evict, write-list}
+use Rattle.model.specs.Calling.{Call, grant, read, serve, set-animal, delete, evict, write-list, plan-set, step-move, step-enter}
 use Rattle.model.specs.Answers.{Answer, started, refused, hand-back}
 use Rattle.model.specs.Lent.{lent-after, lent-call, lent-cut}
 use Rattle.plain.specs.Plain.{plain-read}
@@ -118,6 +118,10 @@ rows =
     ∷ row "fresh N N N" (λ x. starts (x 0) (x 1) (x 2))
     ∷ row "plain N N N" (λ x. audits (x 0) (x 1) (x 2))
     ∷ row "judge" (λ x. judges)
+    ∷ row "plan N P N N" (λ x. asks (plan-set (grant (x 0) (permission (x 1)) (x 2) (x 3))))
+    ∷ row "move N N N N P N N"
+    (λ x. calls (step-move (grant (x 3) (permission (x 4)) (x 5) (x 6)) (record { from = x 0; tag = x 1; to = x 2 })))
+    ∷ row "enter N N N P N N" (λ x. calls (step-enter (grant (x 2) (permission (x 3)) (x 4) (x 5)) (x 0) (x 1)))
     ∷ row "" (λ x w. says [] w)
     ∷ []
 

@@ -1,27 +1,19 @@
 -- Each arm of the code means what its row means. Assumes nothing.
 use Prim.Native.Nat.{ℕ, _≤_}
 use native.Mathlib.Omega.{arith}
-use mathlib.Core.Path.{_≡_, refl}
+use mathlib.Core.Path.{_≡_}
 use mathlib.Core.Logic.{_≢_}
 use mathlib.Core.List.{List}
 use lib.ListN.{getD}
 use Rattle.model.specs.Memory.{Mem}
-use Rattle.model.specs.Calling.{Call, grant, read, serve, set-animal, delete, evict}
+use Rattle.model.specs.Calling.{grant, read, serve, set-animal, delete, evict}
 use Rattle.model.specs.Answers.{hand-back}
 use Rattle.model.specs.declared.Grant.{Grant}
 use Rattle.replay_calls.specs.Told.{Told, Whole, answer-of}
+use Rattle.replay_calls.proofs.Rows.{asked, called}
 use Rattle.replay_rows.specs.declared.Turn.{Turn}
 use Rattle.replay_rows.specs.World.{Replied, world}
-use Rattle.replay_rows.specs.Meaning.{Arm, asks, calls, turns, meaning, permission}
-
-module _ {m : Mem} {at next h : ℕ} {before after : List ℕ} (c : Call) where
-  asked : Told (answer-of m c) at before after next → Replied (asks c (world m h)) m at before after (record { next = next; hand = h })
-  unfolding asks
-  asked t = record { put = t .line; near = omega (arith, t .room); left = refl; hand = refl }
-
-  called : {m′ : Mem} → Whole m c m′ at before after next → Replied (calls c (world m h)) m′ at before after (record { next = next; hand = h })
-  unfolding calls
-  called w = record { put = w .told .line; near = omega (arith, w .told .room); left = w .left; hand = refl }
+use Rattle.replay_rows.specs.Meaning.{Arm, turns, meaning, permission}
 
 -- evict: the hand that comes back
 turned : {m m′ : Mem} {at h : ℕ} {before after : List ℕ} {r : Turn} → Whole m (evict h) m′ at before after (r .next)
