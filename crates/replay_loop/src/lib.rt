@@ -198,7 +198,7 @@ pub fn replay(calls: &[u8], echo: bool) -> Replayed
     let mut records = record_bytes();
     let mut out = portion_bytes();
     portions(
-        b"serve N N N\nread N N N\nset N P N N\ndelete N\nevict\ncut N set N P N N\ncut N delete N\ncut N evict\nhand N\nlist B\npoke slots N N\npoke counters N N\npoke items N N\ndump\nfresh N N N\nplain N N N\njudge\n\n",
+        b"serve N N N\nread N N N\nset N P N N\ndelete N\nevict\ncut N set N P N N\ncut N delete N\ncut N evict\nhand N\nlist B\npoke slots N N\npoke counters N N\npoke items N N\ndump\nfresh N N N\nplain N N N\njudge\nplan N P N N\nmove N N N N P N N\nenter N N N P N N\n\n",
         calls,
         echo,
         &mut slots,

@@ -74,19 +74,19 @@ numbers-are line {rows} l k ex = ex ∙ ap (λ (n : ℕ). padded n (said rows li
 
 module _ (e : Bool) (n : ℕ) (w : World) (line : List ℕ) {slots counters items out out′ : List ℕ} {st r : State} {row : ℕ} (er : row ≡ said language line .row) where
   -- a line that follows a row
-  pub as-heard : {xs : List ℕ} → xs ≡ numbers-of line → row < 18 → Answers (follows e n row xs w) 0 st r slots counters items out out′
+  pub as-heard : {xs : List ℕ} → xs ≡ numbers-of line → row < 21 → Answers (follows e n row xs w) 0 st r slots counters items out out′
       → Answers (reply-to e n w line) (unheard-line line) st r slots counters items out out′
   unfolding reply-to unheard-line
   as-heard ex h a =
-      rw (sym (ap (λ (m : ℕ). ltb m 18) er) ∙ lt-ltb row 18 h)
+      rw (sym (ap (λ (m : ℕ). ltb m 21) er) ∙ lt-ltb row 21 h)
       (subst (λ (m : ℕ). Answers (follows e n m (numbers-of line) w) 0 st r slots counters items out out′) er
       (subst (λ (ys : List ℕ). Answers (follows e n row ys w) 0 st r slots counters items out out′) ex a))
 
   -- and one that follows none
-  pub as-beside : 18 ≤ row → Answers (reply-by (loading line) e n w line) (unheard-by (loading line)) st r slots counters items out out′
+  pub as-beside : 21 ≤ row → Answers (reply-by (loading line) e n w line) (unheard-by (loading line)) st r slots counters items out out′
       → Answers (reply-to e n w line) (unheard-line line) st r slots counters items out out′
   unfolding reply-to unheard-line
-  as-beside h a = rw (sym (ap (λ (m : ℕ). ltb m 18) er) ∙ le-ltb row 18 h) a
+  as-beside h a = rw (sym (ap (λ (m : ℕ). ltb m 21) er) ∙ le-ltb row 21 h) a
 
 by-load : (e : Bool) (n : ℕ) (w : World) (line : List ℕ) {slots counters items out out′ : List ℕ} {st r : State} (x : Load) → loading line ≡ x
     → Answers (reply-by x e n w line) (unheard-by x) st r slots counters items out out′

@@ -189,7 +189,7 @@ pub fn reply(
 {
     let mut numbers = [0u64; 8];
     let row = replay_lines::row_of(rows, line, &mut numbers);
-    if row < 18 {
+    if row < 21 {
         return make_call(
             rows,
             row,

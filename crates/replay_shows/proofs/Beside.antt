@@ -1,8 +1,8 @@
 -- The rows beside the calls: each arm of the code means what its row means. Assumes nothing.
-use Prim.Native.Nat.{ℕ, zero, suc, _+_, _*_, _≤_, min}
+use Prim.Native.Nat.{ℕ, zero, suc, _+_, _*_, _≤_, _<_, min}
 use native.Mathlib.Omega.{arith}
 use mathlib.Core.Path.{_≡_, refl, sym, ap}
-use mathlib.Core.Logic.{_≢_}
+use mathlib.Core.Logic.{_⊎_, _≢_, ⊎-elim}
 use mathlib.Core.Bool.{Bool}
 use mathlib.Core.List.{List, [], _∷_}
 use lib.ListN.{length, getD, take}
@@ -103,15 +103,16 @@ beyond (t ∷ ts) zero n xs w h = absurd (omega arith)
 beyond (t ∷ ts) (suc r) n xs w h = beyond ts r n xs w (omega arith)
 
 module _ {m : Mem} {at h next : ℕ} {before after : List ℕ} {row : ℕ} (n : ℕ) (xs : List ℕ) where
-  pub as-not-understood : 8 ≤ row → row ≢ 14 → row ≢ 8 → row ≢ 9 → row ≢ 10 → row ≢ 11 → row ≢ 12 → row ≢ 13 → row ≢ 15 → row ≢ 16 → row ≢ 17
+  pub as-not-understood : 8 ≤ row → row ≢ 14 → (row < 17) ⊎ (19 < row) → row ≢ 8 → row ≢ 9 → row ≢ 10 → row ≢ 11 → row ≢ 12 → row ≢ 13 → row ≢ 15 → row ≢ 16 → row ≢ 20
       → Put (not-understood n (getD xs 0 0)) at before after next → next ≤ at + 384 → Arm row n xs m h m at before after next
   unfolding meaning
-  as-not-understood lo n14 n8 n9 n10 n11 n12 n13 n15 n16 n17 p l =
-      let k : 18 ≤ row = past 17 row (past 16 row (past 15 row (past 14 row (past 13 row (past 12 row (past 11 row (past 10 row (past 9 row (past 8 row lo n8) n9) n10) n11) n12) n13) n14) n15) n16) n17 in
+  as-not-understood lo n14 out n8 n9 n10 n11 n12 n13 n15 n16 n20 p l =
+      let high : 17 ≤ row = past 16 row (past 15 row (past 14 row (past 13 row (past 12 row (past 11 row (past 10 row (past 9 row (past 8 row lo n8) n9) n10) n11) n12) n13) n14) n15) n16 in
+      let k : 21 ≤ row = ⊎-elim (λ b. absurd (omega arith)) (λ b. past 20 row b n20) out in
       rw (beyond rows row n xs (world m h) k) (record { put = p; near = omega arith; left = refl; hand = refl })
 
 -- a blank line says nothing
-pub as-blank : {m : Mem} {at h : ℕ} {before : List ℕ} {row : ℕ} (n : ℕ) (xs : List ℕ) → row ≡ 17 → Arm row n xs m h m at before before at
+pub as-blank : {m : Mem} {at h : ℕ} {before : List ℕ} {row : ℕ} (n : ℕ) (xs : List ℕ) → row ≡ 20 → Arm row n xs m h m at before before at
 unfolding meaning
 as-blank n xs e = rw e (record { put = record { bytes-put = refl; next = omega arith }; near = omega arith; left = refl; hand = refl })
 

@@ -1,7 +1,7 @@
 // The lines of a replay beside the table's calls: the hand, the list, a poke, a dump, the plain engine, the judge, and what is not understood.
 ghost use mathlib.Core.Path.{_≡_};
-ghost use mathlib.Core.Logic.{_≢_};
-ghost use Prim.Native.Nat.{_+_, _*_, _≤_, min};
+ghost use mathlib.Core.Logic.{_⊎_, _≢_};
+ghost use Prim.Native.Nat.{_+_, _*_, _≤_, _<_, min};
 ghost use lib.ListN.{length};
 ghost use Rattle.model.specs.Memory.{mem};
 ghost use Rattle.model.specs.Shape.{four};
@@ -117,7 +117,7 @@ fn put_verdict(slots: &[u32], counters: &[u32], items: &[u64], out: &mut [u8], a
     replay_answers::put_judgement(out, at, said)
 }
 
-// The rows from 8 on but for fresh: the hand, a list, a poke, a dump, the plain engine, the judge, a blank line, and one that follows no row.
+// The rows from 8 on but for fresh and a set in steps: the hand, a list, a poke, a dump, the plain engine, the judge, a blank line, and one that follows no row.
 pub fn beside_the_calls(
     row: usize,
     number: u64,
@@ -130,7 +130,7 @@ pub fn beside_the_calls(
     at: usize,
     hand: usize,
 ) -> Turn
-    requires { ⌜ (8 ≤ row) × (row ≢ 14) × (length (now numbers) ≡ 8) × (length (now records) ≡ 81920) ⌝ }
+    requires { ⌜ (8 ≤ row) × (row ≢ 14) × ((row < 17) ⊎ (19 < row)) × (length (now numbers) ≡ 8) × (length (now records) ≡ 81920) ⌝ }
     requires { ⌜ Ample (mem (now slots) (now counters) (now items)) at (now out) ⌝ }
     ensures { λ r. ⌜ Replied (meaning row number (now (numbers .entry)) (world (mem (now (slots .entry)) (now (counters .entry)) (now (items .entry))) hand))
         (mem (now (slots .exit)) (now (counters .exit)) (now (items .exit))) at (now (out .entry)) (now (out .exit)) r ⌝ }
@@ -177,7 +177,7 @@ pub fn beside_the_calls(
             next: put_verdict(slots, counters, items, out, at),
             hand,
         },
-        17 => Turn { next: at, hand },
+        20 => Turn { next: at, hand },
         _ => Turn {
             next: replay_answers::put_not_understood(out, at, number, a),
             hand,

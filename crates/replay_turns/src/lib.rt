@@ -81,6 +81,21 @@ pub fn on_table(
     if row <= 7 {
         return replay_cuts::cut_call(row, number, numbers, slots, counters, items, out, at, hand);
     }
+    if 17 <= row {
+        if row <= 19 {
+            return replay_plans::planned_call(
+                row,
+                number,
+                numbers,
+                slots,
+                counters,
+                items,
+                out,
+                at,
+                hand,
+            );
+        }
+    }
     replay_shows::beside_the_calls(
         row,
         number,
