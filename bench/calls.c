@@ -396,8 +396,10 @@ static void a_dump(void) {
     memset(dump, 0, sizeof dump);
     for (uint64_t i = 0; i < counters; i++) dump[1][i] = (uint32_t)of_any_size() & ~UINT32_C(1);
     uint64_t most = crowded ? slots - 1 - below(4) : items / 4;
-    for (uint64_t place = 0, k = 1; place < most && k < 2 * slots; k++) /* whom no slot takes is left out */
-        if (crowded ? enter(place, k * factor) < slots : one_in(3) || enter(place, k * factor) <= slots) place++;
+    for (uint64_t place = 0, k = 1; place < most && k < 2 * slots; k++) {
+        uint64_t slot = !crowded && one_in(3) ? slots : enter(place, k * factor);
+        place += !crowded || slot < slots; /* in a crowded one, the next animal is tried where no slot takes her */
+    }
     for (uint64_t faults = below(crowded ? 2 : 3); faults > 0; faults--) a_fault();
     for (int which = 0; which < 3; which++) {
         if (one_in(30)) continue;
@@ -414,7 +416,7 @@ static void a_dump(void) {
 
 /* Steps that suit the dump, as far as it was loaded as it stands and the steps before were made. Returns how many. */
 static uint64_t steps_on_dump(void) {
-    uint64_t count = below(9);
+    uint64_t count = one_in(2) ? 0 : 1 + below(9);
     for (uint64_t steps = count; steps > 0; steps--) {
         uint64_t from = below(slots), place = below(items / 4), animal = (items / 4 + 1 + below(items / 4)) * factor;
         for (uint64_t i = 0; i < slots && dump[0][from] == 0 && !one_in(9); i++) from = (from + 1) % slots;
@@ -475,7 +477,7 @@ static void the_edges(uint64_t seed, uint64_t count) {
     for (uint64_t made = 1; made < count; made++)
         if (made == 1) puts("plain 0 10081 1");
         else if (made == 40) puts("fresh 16 4 20");
-        else if (one_in(mood == POKED ? 14 : 400)) a_dump(), made += 2 + steps_on_dump();
+        else if (one_in(mood == POKED ? 12 : 400)) a_dump(), made += 2 + steps_on_dump();
         else if (made > 40 && one_in(100)) made += a_chain() - 1;
         else a_line();
     printf("dump%s", ends[seed % 4]);
