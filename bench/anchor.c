@@ -277,7 +277,7 @@ BoughladderPlan anchor_plan(ANCHOR_LENT, uint64_t animal, uint32_t permission, u
     if (plan.refusal != 0) return plan;
     uint32_t n = (uint32_t)(sl / 4), m = (uint32_t)(il / 4);
     if (hit_of(slots, items, home, animal) >= 0) { plan.refusal = 12; return plan; }
-    uint32_t place = 0;
+    size_t place = 0;
     while (place < m && items[4 * place] != 0) place++;
     if (place == m) { plan.refusal = 5; return plan; }
     for (uint32_t moves = 0; moves <= 4; moves++)

@@ -219,15 +219,20 @@ static inline uint32_t all_entries(const uint32_t *four, uint32_t m) {
     return !(no_entry(four[0], m) | no_entry(four[1], m) | no_entry(four[2], m) | no_entry(four[3], m));
 }
 
-/* A bucket is worked out when it is visited, from the entry that leads to it: visit v's is slot (v - 2) % 4 of visit
-   (v - 2) / 4. So nothing is done for the visits behind the last, and only those whose slots lead on are noted. */
+static inline uint32_t free_slots(const uint32_t *four) {
+    return (uint32_t)(four[0] == 0) | (uint32_t)(four[1] == 0) << 1 | (uint32_t)(four[2] == 0) << 2 | (uint32_t)(four[3] == 0) << 3;
+}
+
+/* Most find room at home, so the eight home words are judged at once, the first bucket's in the lower bits. Else the four
+   buckets that one visit leads to are judged together; visit v's come from slot (v - 2) % 4 of visit (v - 2) / 4. */
 BoughladderPlan second_plan(const BoughladderTable *t, uint64_t animal, uint32_t permission, uint64_t issued, uint64_t now) {
-    BoughladderPlan plan = {0};
+    BoughladderPlan plan = {0}; /* cleared while the hash waits for its products: later it takes longer */
     Homes home;
     (void)permission;
     plan.refusal = refused_first(t, animal, issued, now, &home);
     if (plan.refusal) return plan;
     uint32_t n = (uint32_t)(t->slots_length / 4), m = (uint32_t)(t->items_length / 4);
+    const uint32_t *slots = t->slots;
     size_t slot;
     int64_t hit = hit_of(t, home, animal, &slot);
     if (hit == DAMAGED) { plan.refusal = 4; return plan; }
@@ -235,19 +240,32 @@ BoughladderPlan second_plan(const BoughladderTable *t, uint64_t animal, uint32_t
     const uint64_t *vacant = first_with(t->items, m, 0);
     if (vacant == NULL) { plan.refusal = 5; return plan; }
 
-    const uint32_t *slots = t->slots;
-    uint16_t visited[PARENTS] /* not set to zero */;
-    uint32_t v = 0, bucket = home.first;
-    while (all_entries(slots + 4 * bucket, m)) {
-        if (v < PARENTS) visited[v] = (uint16_t)bucket;
-        if (++v == VISITS) { plan.refusal = 6; return plan; }
-        uint32_t parent = v > 1 ? visited[(v - 2) / 4] : 0;
-        bucket = v > 1 ? parent ^ spread(slots[4 * parent + (v - 2) % 4] >> 16, n) : home.other;
+    uint32_t free = free_slots(slots + 4 * home.first) | free_slots(slots + 4 * home.other) << 4;
+    if (free) {
+        uint32_t i = (uint32_t)__builtin_ctz(free);
+        plan.slot = 4 * (i < 4 ? home.first : home.other) + i % 4;
+        plan.place = (size_t)(vacant - t->items) / 4;
+        return plan;
     }
-    const uint32_t *four = slots + 4 * bucket;
+    uint16_t visited[VISITS] /* not set to zero */;
+    uint32_t parent, full = 15;
+    visited[0] = (uint16_t)home.first;
+    visited[1] = (uint16_t)home.other;
+    for (parent = 0; parent < PARENTS; parent++) {
+        const uint32_t *words = slots + 4 * visited[parent];
+        uint16_t *led = visited + 2 + 4 * parent;
+        full = 0;
+        for (uint32_t i = 0; i < 4; i++) {
+            led[i] = (uint16_t)(visited[parent] ^ spread(words[i] >> 16, n));
+            full |= all_entries(slots + 4 * led[i], m) << i;
+        }
+        if (full != 15) break;
+    }
+    if (full == 15) { plan.refusal = 6; return plan; }
+    uint32_t v = 2 + 4 * parent + (uint32_t)__builtin_ctz(~full);
+    const uint32_t *four = slots + 4 * visited[v];
     if (damaged(four[0], m) | damaged(four[1], m) | damaged(four[2], m) | damaged(four[3], m)) { plan.refusal = 4; return plan; }
-    slot = 4 * bucket;
-    while (slots[slot] != 0) slot++;
+    slot = 4u * visited[v] + (uint32_t)__builtin_ctz(free_slots(four));
     for (; v > 1; v = (v - 2) / 4) { /* from the far end back */
         size_t from = 4u * visited[(v - 2) / 4] + (v - 2) % 4;
         plan.moves[plan.count++] = (BoughladderMove){from, slots[from] >> 16, slot};
