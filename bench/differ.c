@@ -25,10 +25,10 @@
  *     again      out of turn, or once more
  *     suited     from no plan, but from the words of the table: so they can mostly be made
  *     slipped    as one of these, with a slip in one thing: beside the planned number, far above it, or another animal
- * Behind each plan its steps are made on one copy of our memory and a set on another (on M 4096 behind one in LARGE_SHARE).
- * Both must leave the same words; where the plan is refused the set is, with the same number, but 12 is an update or 11. And
- * `due` tells the refusal of each plan and step once more, from the words of the wish, and what alone stood against it.
- * Where the memory is not clean, some searches of sets and plans end at the first or the last visit of a level.
+ * Behind each plan its steps are made on one copy of our memory and a set on another (on M 4096 behind some of them). Both must
+ * leave the same words; where the plan is refused the set is, with the same number, but 12 is an update or 11. And `due` tells
+ * the refusal of each plan and step once more, from the words of the wish, and what alone stood against it.
+ * Where the memory is not clean, some searches of sets and plans end at the first or the last visit of a level (`aim`).
  *
  * Behind each call come plain reads of our memory, before its words are compared, so that a word that they write shows:
  *     clean    where finished calls from fresh have made the table, in an episode of any kind: of the call's animal, of 0,
@@ -689,12 +689,13 @@ static size_t live_places(void) {
     return live;
 }
 
+static int has_lengths(const Call *c) { return c->sl == 4 * n && c->cl == v && c->il == 4 * m; }
+
 /* After a call: whether the table is clean. */
 static int stays_clean(const Call *c, const Reply *told) {
-    int whole = c->sl == 4 * n && c->cl == v && c->il == 4 * m;
     if (told->refusal != 0 || !writes(c)) return clean;
-    if (c->call == FRESH) return whole;
-    return clean && whole && c->call != SETCUT && c->call != DELETECUT && c->call != EVICTCUT;
+    if (c->call == FRESH) return has_lengths(c);
+    return clean && has_lengths(c) && c->call != SETCUT && c->call != DELETECUT && c->call != EVICTCUT;
 }
 
 /* A limit and a minute for a stamp: good ones, bad ones, and those at which the answer turns. */
@@ -1001,7 +1002,7 @@ static void go_on(const Call *c, const Reply *told) {
     if (c->call == PLAN && told->refusal == 0) {
         Plan *plan = &in_hand[below(IN_HAND)];
         *plan = (Plan){*c, *told, 0};
-        hurried = one_in(2) ? plan : NULL;
+        hurried = has_lengths(c) && one_in(2) ? plan : NULL;
     } else if ((c->call == MOVE || c->call == ENTER) && stepping) {
         stepping->next += told->refusal == 0 || (told->refusal == 12 && one_in(2));
         if (told->refusal != 0 || c->call == ENTER) hurried = NULL;
