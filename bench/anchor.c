@@ -168,6 +168,25 @@ BoughladderFinding anchor_find(ANCHOR_LENT, uint64_t animal) {
     return f;
 }
 
+/* The stores of a move, and those of a new entry. */
+INLINE void carry_over(Budget *budget, uint32_t *counter, uint32_t *from, uint32_t *to) {
+    store32(budget, counter, *counter + 1);
+    store32(budget, to, *from);
+    store32(budget, from, 0);
+    store32(budget, counter, *counter + 1);
+}
+
+INLINE void put_in(Budget *budget, uint32_t *counter, uint64_t *item, uint32_t *slot, uint32_t word, uint64_t animal,
+                   uint32_t permission, uint64_t issued) {
+    store32(budget, counter, *counter + 1);
+    store64(budget, item + 0, animal);
+    store64(budget, item + 1, permission);
+    store64(budget, item + 2, issued);
+    store64(budget, item + 3, 1);
+    store32(budget, slot, word);
+    store32(budget, counter, *counter + 1);
+}
+
 INLINE BoughladderSetting setting(ANCHOR_TABLE, uint64_t animal, uint32_t permission, uint64_t issued, uint64_t now,
                                   Budget budget) {
     BoughladderSetting s = {0, 0, 0};
@@ -216,24 +235,12 @@ INLINE BoughladderSetting setting(ANCHOR_TABLE, uint64_t animal, uint32_t permis
     while (v >= 2) { /* from the far end back */
         uint32_t parent = (v - 2) / 4;
         uint32_t source = 4u * queue[parent] + (v - 2) % 4;
-        uint32_t word = slots[source];
-        uint32_t *c = counters + counter_of(queue[parent], queue[v], cl);
-        store32(&budget, c, *c + 1);
-        store32(&budget, slots + free_slot, word);
-        store32(&budget, slots + source, 0);
-        store32(&budget, c, *c + 1);
+        carry_over(&budget, counters + counter_of(queue[parent], queue[v], cl), slots + source, slots + free_slot);
         free_slot = source;
         v = parent;
         s.moves++;
     }
-    uint64_t *item = items + 4 * place;
-    store32(&budget, counter, *counter + 1);
-    store64(&budget, item + 0, animal);
-    store64(&budget, item + 1, permission);
-    store64(&budget, item + 2, issued);
-    store64(&budget, item + 3, 1);
-    store32(&budget, slots + free_slot, home.tag * 65536u + place);
-    store32(&budget, counter, *counter + 1);
+    put_in(&budget, counter, items + 4 * place, slots + free_slot, home.tag * 65536u + place, animal, permission, issued);
     return s;
 }
 
@@ -246,6 +253,89 @@ BoughladderSetting anchor_set_cut(ANCHOR_TABLE, uint64_t animal, uint32_t permis
                                   uint64_t k) {
     Budget budget = {1, k};
     return setting(slots, sl, counters, cl, items, il, animal, permission, issued, now, budget);
+}
+
+/* What comes first in a plan and in every step, as in a set of that animal: 1, 2, 3, 8, 4; or 0, and her homes. */
+INLINE uint32_t refused_first(const uint32_t *slots, size_t sl, const uint32_t *counters, size_t cl, size_t il,
+                              uint64_t animal, uint64_t issued, uint64_t now, Homes *home) {
+    if (!good_shape(sl, cl, il)) return 1;
+    if (animal == 0) return 2;
+    if (now == NO_MINUTE || issued > now) return 3;
+    *home = homes_of(animal, (uint32_t)(sl / 4), cl);
+    if (counters[home->counter] & 1) return 8;
+    return damaged_homes(slots, *home, (uint32_t)(il / 4)) ? 4 : 0;
+}
+
+/* The visit list level by level and without a queue, so that a slip in set's search is no slip here: visit v of a level is a
+   way of so many moves, and v's digits in fours are the slots that it goes by. */
+BoughladderPlan anchor_plan(ANCHOR_LENT, uint64_t animal, uint32_t permission, uint64_t issued, uint64_t now) {
+    BoughladderPlan plan;
+    Homes home;
+    (void)permission;
+    memset(&plan, 0, sizeof plan);
+    plan.refusal = refused_first(slots, sl, counters, cl, il, animal, issued, now, &home);
+    if (plan.refusal != 0) return plan;
+    uint32_t n = (uint32_t)(sl / 4), m = (uint32_t)(il / 4);
+    if (hit_of(slots, items, home, animal) >= 0) { plan.refusal = 12; return plan; }
+    size_t place = 0;
+    while (place < m && items[4 * place] != 0) place++;
+    if (place == m) { plan.refusal = 5; return plan; }
+    for (uint32_t moves = 0; moves <= 4; moves++)
+        for (uint32_t v = 0; v < 2u << 2 * moves; v++) {
+            uint32_t bucket = v >> 2 * moves == 0 ? home.first : home.other, way[5], i = 0;
+            for (uint32_t d = 0; d < moves; d++) {
+                way[d] = 4 * bucket + (v >> 2 * (moves - 1 - d) & 3);
+                bucket = other_bucket(bucket, slots[way[d]] >> 16, n);
+            }
+            if (damaged_bucket(slots + 4 * bucket, m)) { plan.refusal = 4; return plan; }
+            while (i < 4 && slots[4 * bucket + i] != 0) i++;
+            if (i == 4) continue;
+            way[moves] = 4 * bucket + i;
+            for (uint32_t d = moves; d > 0; d--) { /* from the far end back */
+                BoughladderMove move = {way[d - 1], slots[way[d - 1]] >> 16, way[d]};
+                plan.moves[plan.count++] = move;
+            }
+            plan.place = place;
+            plan.slot = way[0];
+            return plan;
+        }
+    plan.refusal = 6;
+    return plan;
+}
+
+/* The conditions as they are written. */
+uint32_t anchor_step_move(uint32_t *slots, size_t sl, uint32_t *counters, size_t cl, const uint64_t *items, size_t il,
+                          BoughladderMove move, uint64_t animal, uint32_t permission, uint64_t issued, uint64_t now) {
+    Budget whole = {0, 0};
+    Homes home;
+    (void)items, (void)permission;
+    uint32_t refusal = refused_first(slots, sl, counters, cl, il, animal, issued, now, &home);
+    if (refusal != 0) return refusal;
+    if (move.from >= sl || move.to >= sl) return 12;
+    uint32_t word = slots[move.from], tag = word >> 16;
+    if (word == 0 || damaged(word, (uint32_t)(il / 4))) return 12;
+    if (tag != move.tag) return 12;
+    if (slots[move.to] != 0) return 12;
+    uint32_t bucket = (uint32_t)(move.from / 4), other = other_bucket(bucket, tag, (uint32_t)(sl / 4));
+    if (move.to / 4 != other) return 12;
+    carry_over(&whole, counters + counter_of(bucket, other, cl), slots + move.from, slots + move.to);
+    return 0;
+}
+
+uint32_t anchor_step_enter(ANCHOR_TABLE, size_t place, size_t slot, uint64_t animal, uint32_t permission, uint64_t issued,
+                           uint64_t now) {
+    Budget whole = {0, 0};
+    Homes home;
+    uint32_t refusal = refused_first(slots, sl, counters, cl, il, animal, issued, now, &home);
+    if (refusal != 0) return refusal;
+    if (hit_of(slots, items, home, animal) >= 0) return 12;
+    if (place >= il / 4 || slot >= sl) return 12;
+    if (items[4 * place] != 0) return 12;
+    if (slots[slot] != 0) return 12;
+    if (slot / 4 != home.first && slot / 4 != home.other) return 12;
+    put_in(&whole, counters + home.counter, items + 4 * place, slots + slot, home.tag * 65536u + (uint32_t)place, animal,
+           permission, issued);
+    return 0;
 }
 
 INLINE void take_away(Budget *budget, uint32_t *counter, uint32_t *slot, uint64_t *item) {

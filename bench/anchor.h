@@ -19,6 +19,11 @@ BoughladderFinding anchor_find(ANCHOR_LENT, uint64_t animal);
 BoughladderSetting anchor_set(ANCHOR_TABLE, uint64_t animal, uint32_t permission, uint64_t issued, uint64_t now);
 BoughladderSetting anchor_set_cut(ANCHOR_TABLE, uint64_t animal, uint32_t permission, uint64_t issued, uint64_t now,
                                   uint64_t k);
+BoughladderPlan anchor_plan(ANCHOR_LENT, uint64_t animal, uint32_t permission, uint64_t issued, uint64_t now);
+uint32_t anchor_step_move(uint32_t *slots, size_t sl, uint32_t *counters, size_t cl, const uint64_t *items, size_t il,
+                          BoughladderMove move, uint64_t animal, uint32_t permission, uint64_t issued, uint64_t now);
+uint32_t anchor_step_enter(ANCHOR_TABLE, size_t place, size_t slot, uint64_t animal, uint32_t permission, uint64_t issued,
+                           uint64_t now);
 uint32_t anchor_delete(ANCHOR_TABLE, uint64_t animal);
 uint32_t anchor_delete_cut(ANCHOR_TABLE, uint64_t animal, uint64_t k);
 BoughladderEvicting anchor_evict(ANCHOR_TABLE, size_t hand);

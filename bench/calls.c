@@ -73,7 +73,8 @@ static const char *const edges[] = {
     "-4611686018427387904", "4294967294", "4294967295", "4294967296", "0", "1", "00", "65536", "10080", "10081", "81919",
     "81920", "81921", "8192", "8196", "16384", "1024", "1025", "4096", "4100", "-0", "-1", "+1", "1.", "1,024", "0x10",
     "1e3", "1_0", "'1'", "standing", "set", "\v1", "1\f", "\xc2\xa0", "\r", "1\r", "\\", "/", ":", "9:", "\xef\xbb\xbf",
-    "standig", "evict", "slots", "99999999999999999999x", "x99999999999999999999", "plain", "judge", "..",
+    "standig", "evict", "slots", "99999999999999999999x", "x99999999999999999999", "plain", "judge", "plan",
+    "move", "enter", "..",
 };
 
 static void put(const char *text) {
@@ -174,10 +175,10 @@ static void poke(void) {
     }
 }
 
-/* Mostly issued before now, and some long before. Of the same animal as the last one, it is often issued about the same
-   minute. */
-static void a_set(void) {
-    uint64_t animal = an_animal(), now = one_in(60) ? UINT64_MAX - below(2) : a_minute();
+/* An animal, a permission and the two minutes: mostly issued before now, and some long before. Of the same animal as the last
+   one, it is often issued about the same minute. */
+static void an_entry(uint64_t animal) {
+    uint64_t now = one_in(60) ? UINT64_MAX - below(2) : a_minute();
     uint64_t issued = one_in(3) ? now : one_in(12) ? now + below(3) : one_in(12) ? any() : now - below(500);
     if (one_in(6)) issued = below(3);
     if (animal == last && !one_in(4)) {
@@ -185,12 +186,66 @@ static void a_set(void) {
         if (issued > now && !one_in(8)) now = issued;
     }
     if (issued <= now) last = animal, last_issued = issued;
-    word("set");
-    number(animal);
+    number(one_in(150) ? 0 : animal);
     number(one_in(20) ? UINT32_MAX - 2 + below(5) : below(5));
     number(issued);
     number(now);
+}
+
+static void a_set(void) {
+    word("set");
+    an_entry(an_animal());
     if (one_in(30)) word("standing"); /* not understood since version 4 */
+}
+
+static uint32_t hash(uint64_t animal) {
+    uint32_t h = 2166136261u;
+    for (int i = 0; i < 8; i++) h = (h ^ (uint32_t)(animal >> 8 * i & 255)) * 16777619u;
+    return h;
+}
+
+/* Where an animal belongs. */
+typedef struct {
+    uint32_t tag, first, other;
+} Homes;
+
+static uint32_t other_bucket(uint32_t bucket, uint32_t tag) { return bucket ^ (tag * 1540483477u % ((uint32_t)slots / 4) | 1); }
+
+static Homes homes_of(uint64_t animal) {
+    uint32_t h = hash(animal), tag = h >> 24 ? h >> 24 : 1, first = h % ((uint32_t)slots / 4);
+    Homes home = {tag, first, other_bucket(first, tag)};
+    return home;
+}
+
+/* A number of a step: mostly as it should be, else beside it, with a bit above 16 more, about the end, or the largest. */
+static void planned(uint64_t value, uint64_t end) {
+    uint64_t bit = UINT64_C(1) << (16 + below(48));
+    if (!one_in(10)) number(value);
+    else if (one_in(3)) number(value - 1 + below(3));
+    else if (one_in(3)) number(end - 1 + below(3));
+    else number(one_in(3) ? UINT64_MAX - below(2) : value + bit);
+}
+
+static void a_move(uint64_t from, uint64_t tag, uint64_t to) {
+    word("move");
+    planned(from, slots), planned(tag, 256), planned(to, slots);
+    an_entry(an_animal());
+}
+
+static void an_enter(uint64_t place, uint64_t slot, uint64_t animal) {
+    word("enter");
+    planned(place, items / 4), planned(slot, slots);
+    an_entry(animal);
+}
+
+/* A step of a plan that nobody made: of an animal who may stand in a slot of hers, or might go there. */
+static void a_step(void) {
+    uint64_t animal = an_animal(), from = below(4), to = below(4), place = below(items / 4 + 1);
+    Homes home = homes_of(animal);
+    int back = one_in(4);
+    from += 4 * (back ? home.other : home.first), to += 4 * (back ? home.first : home.other);
+    if (one_in(3)) an_enter(place, from, animal);
+    else a_move(from, home.tag, to);
 }
 
 static void a_write(void) {
@@ -253,6 +308,8 @@ static void a_call(void) {
     if (judging || one_in(25)) word("judge"), judging = 0;
     else if (one_in(mood == POKED ? 60 : 400)) a_run(), judging = one_in(2);
     else if (one_in(150)) fresh();
+    else if (one_in(15)) word("plan"), an_entry(an_animal());
+    else if (one_in(12)) a_step();
     else if (kind < 45) a_write();
     else if (kind < 80) an_ask();
     else if (kind < 84) word("hand"), number(below(items / 4 + 1));
@@ -286,25 +343,20 @@ static void a_line(void) {
 /* A dump, as another workshop builds its table: each animal at a place of her own, in a free slot of her two buckets. */
 static uint64_t dump[3][256], lengths[3];
 
-static uint32_t hash(uint64_t animal) {
-    uint32_t h = 2166136261u;
-    for (int i = 0; i < 8; i++) h = (h ^ (uint32_t)(animal >> 8 * i & 255)) * 16777619u;
-    return h;
-}
-
-static void enter(uint64_t place, uint64_t animal) {
-    uint32_t h = hash(animal), tag = h >> 24 ? h >> 24 : 1, n = (uint32_t)slots / 4, first = h % n;
-    uint32_t other = first ^ (tag * 1540483477u % n | 1);
+/* Returns the slot, or that behind the last where both buckets are full. */
+static uint64_t enter(uint64_t place, uint64_t animal) {
+    Homes home = homes_of(animal);
     for (uint64_t from = below(8), i = from; i < from + 8; i++) {
-        uint64_t *slot = dump[0] + 4 * (i % 8 < 4 ? first : other) + i % 4;
+        uint64_t *slot = dump[0] + 4 * (i % 8 < 4 ? home.first : home.other) + i % 4;
         if (*slot != 0) continue;
         uint64_t *item = dump[2] + 4 * place;
-        *slot = (uint64_t)tag << 16 | place;
-        if (animal == 0) return;
+        *slot = (uint64_t)home.tag << 16 | place;
+        if (animal == 0) return (uint64_t)(slot - dump[0]);
         item[0] = last = animal, item[1] = below(5), item[2] = last_issued = a_minute(), item[3] = below(2);
         if (one_in(3)) item[2] = MARK - one_in(8); /* or the last minute */
-        return;
+        return (uint64_t)(slot - dump[0]);
     }
+    return slots;
 }
 
 /* One fault. Each condition of the judge has its own, but not every fault breaks it. */
@@ -334,15 +386,21 @@ static void a_fault(void) {
     }
 }
 
-/* The three lines of a dump, with faults or without, and then the verdict. */
+/* The three lines of a dump, with faults or without, and then the verdict. In a crowded one a few slots are free, so that a
+   plan has moves. */
 static void a_dump(void) {
-    slots = UINT64_C(8) << below(3), counters = 1 + below(8), items = 4 * (1 + below(slots)), factor = a_factor();
+    int crowded = one_in(8);
+    slots = UINT64_C(8) << (crowded ? 2 : below(3)), counters = 1 + below(8), factor = a_factor();
+    items = crowded ? 4 * slots : 4 * (1 + below(slots));
     lengths[0] = slots, lengths[1] = counters, lengths[2] = items;
     memset(dump, 0, sizeof dump);
     for (uint64_t i = 0; i < counters; i++) dump[1][i] = (uint32_t)of_any_size() & ~UINT32_C(1);
-    for (uint64_t place = 0; place < items / 4; place++)
-        if (!one_in(3)) enter(place, (place + 1) * factor);
-    for (uint64_t faults = below(3); faults > 0; faults--) a_fault();
+    uint64_t most = crowded ? slots - 1 - below(4) : items / 4;
+    for (uint64_t place = 0, k = 1; place < most && k < 2 * slots; k++) {
+        uint64_t slot = !crowded && one_in(3) ? slots : enter(place, k * factor);
+        place += !crowded || slot < slots; /* in a crowded one, the next animal is tried where no slot takes her */
+    }
+    for (uint64_t faults = below(crowded ? 2 : 3); faults > 0; faults--) a_fault();
     for (int which = 0; which < 3; which++) {
         if (one_in(30)) continue;
         uint64_t slip = one_in(12) ? below(lengths[which] + 1) : UINT64_MAX;
@@ -356,6 +414,61 @@ static void a_dump(void) {
     judging = !one_in(8);
 }
 
+/* Steps that suit the dump, as far as it was loaded as it stands and the steps before were made. Returns how many. */
+static uint64_t steps_on_dump(void) {
+    uint64_t count = one_in(2) ? 0 : 1 + below(9);
+    for (uint64_t steps = count; steps > 0; steps--) {
+        uint64_t from = below(slots), place = below(items / 4), animal = (items / 4 + 1 + below(items / 4)) * factor;
+        for (uint64_t i = 0; i < slots && dump[0][from] == 0 && !one_in(9); i++) from = (from + 1) % slots;
+        uint64_t tag = dump[0][from] >> 16, to = 4 * other_bucket((uint32_t)from / 4, (uint32_t)tag) + below(4);
+        used = 0;
+        if (one_in(3)) {
+            word("plan"), an_entry(animal);
+        } else if (dump[2][4 * place] == 0) {
+            an_enter(place, enter(place, animal), animal);
+        } else {
+            for (int i = 0; i < 3 && dump[0][to] != 0; i++) to = to / 4 * 4 + (to + 1) % 4;
+            a_move(from, tag, to);
+            if (dump[0][to] == 0) dump[0][to] = dump[0][from], dump[0][from] = 0;
+        }
+        end_line();
+    }
+    return count;
+}
+
+/* A table by its slot words alone: all entries of a bucket lead to the next of a chain, and the last bucket has the free slot.
+   So the plan of an animal is known, and its steps follow. Returns how many lines it has. */
+static uint64_t a_chain(void) {
+    slots = 32, counters = 1 + below(8), items = 4 * (1 + below(8)), factor = a_factor();
+    uint64_t animal = an_animal(), moves = below(5), free = below(4), to;
+    Homes home = homes_of(animal);
+    uint32_t chain[5] = {home.first}, leads[8], seen = 1u << home.first | 1u << home.other, tag;
+    for (int b = 0; b < 8; b++) leads[b] = 1 + (uint32_t)below(255);
+    for (uint64_t k = 0; k <= moves; k++) { /* the last leads on, too, but it isn't followed */
+        do tag = 1 + (uint32_t)below(255);
+        while (seen >> other_bucket(chain[k], tag) & 1);
+        leads[chain[k]] = tag;
+        if (k < moves) chain[k + 1] = other_bucket(chain[k], tag), seen |= 1u << chain[k + 1];
+    }
+    leads[home.other] = home.tag; /* back to the first */
+    used = 0;
+    word("fresh"), number(slots), number(counters), number(items), end_line();
+    used = 0;
+    put("slots");
+    for (uint64_t i = 0; i < slots; i++) right_number(i == 4 * chain[moves] + free ? 0 : leads[i / 4] << 16 | below(items / 4));
+    end_line();
+    used = 0;
+    word("plan"), an_entry(animal), end_line();
+    to = 4 * chain[moves] + free;
+    for (uint64_t k = moves; k > 0; k--, to = 4 * chain[k]) {
+        used = 0;
+        a_move(4 * chain[k - 1], leads[chain[k - 1]], to), end_line();
+    }
+    used = 0;
+    an_enter(0, to, animal), end_line();
+    return moves + 4;
+}
+
 /* The first lines have no table, and in the first of all 1 comes before 2 and 3. The last line shows every word; its line
    end may be missing, or half of it. */
 static void the_edges(uint64_t seed, uint64_t count) {
@@ -364,7 +477,8 @@ static void the_edges(uint64_t seed, uint64_t count) {
     for (uint64_t made = 1; made < count; made++)
         if (made == 1) puts("plain 0 10081 1");
         else if (made == 40) puts("fresh 16 4 20");
-        else if (one_in(mood == POKED ? 12 : 400)) a_dump();
+        else if (one_in(mood == POKED ? 12 : 400)) a_dump(), made += 2 + steps_on_dump();
+        else if (made > 40 && one_in(100)) made += a_chain() - 1;
         else a_line();
     printf("dump%s", ends[seed % 4]);
 }

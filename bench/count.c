@@ -11,7 +11,9 @@
 
 #define CALLS 2000
 
-static Table ours, theirs, others;
+static Table ours, theirs, others, trial;
+static BoughladderMove there[CALLS / 2], back[CALLS / 2];
+static size_t places[CALLS], slots[CALLS]; /* where the animals go in one step */
 
 /* How each table is passed to its calls, and its items to the plain read. */
 #define boughladder_TABLE TABLE
@@ -54,6 +56,17 @@ static Table ours, theirs, others;
     KIND(who, smalls)                                                                                                   \
     WORK(who##_new) /* into the places that the deletes left, each the lowest vacant one */                             \
         for (size_t i = 0; i < CALLS; i++) t->sum += who##_set(who##_TABLE, held[i], 1, NOW, NOW).visits;               \
+    }                                                                                                                   \
+    WORK(who##_plans)                                                                                                   \
+        for (size_t i = 0; i < CALLS; i++) t->sum += who##_plan(who##_TABLE, i + 1, 1, NOW, NOW).slot;                  \
+    }                                                                                                                   \
+    WORK(who##_moves) /* there and back */                                                                              \
+        for (size_t i = 0; i < CALLS; i++)                                                                              \
+            t->sum += who##_step_move(who##_TABLE, i % 2 ? back[i / 2] : there[i / 2], i + 1, 1, NOW, NOW);             \
+    }                                                                                                                   \
+    WORK(who##_enters)                                                                                                  \
+        for (size_t i = 0; i < CALLS; i++)                                                                              \
+            t->sum += who##_step_enter(who##_TABLE, places[i], slots[i], held[i], 1, NOW, NOW);                         \
     }
 #define EVICTS(who)                                                                                                     \
     WORK(who##_evicts)                                                                                                  \
@@ -82,6 +95,34 @@ static void fill(uint64_t (*number)(void)) {
     theirs = others = ours;
 }
 
+/* Entries with a free slot in their other bucket. */
+static void choose_moves(void) {
+    for (size_t i = 0; i < CALLS / 2;) {
+        size_t from = any() % (4 * N), to;
+        uint32_t tag = ours.slots[from] >> 16;
+        to = 4 * (from / 4 ^ ((tag * 1540483477u % N) | 1));
+        while (to % 4 < 3 && ours.slots[to] != 0) to++;
+        if (tag == 0 || ours.slots[to] != 0) continue;
+        there[i] = (BoughladderMove){from, tag, to};
+        back[i++] = (BoughladderMove){to, tag, from};
+    }
+}
+
+/* The first animals of the herd leave, and others, whose plans have no moves, are to take their places. */
+static void choose_places(void) {
+    Table *t = &ours;
+    for (size_t i = 0; i < CALLS; i++) boughladder_delete(TABLE, held[i]);
+    trial = theirs = others = ours;
+    t = &trial;
+    for (size_t i = 0; i < CALLS;) {
+        uint64_t animal = any();
+        BoughladderPlan plan = boughladder_plan(TABLE, animal, 1, NOW, NOW);
+        if (plan.refusal != 0 || plan.count != 0) continue;
+        boughladder_step_enter(TABLE, plan.place, plan.slot, animal, 1, NOW, NOW);
+        held[i] = animal, places[i] = plan.place, slots[i++] = plan.slot;
+    }
+}
+
 static int differ(const Table *a, const Table *b) { return memcmp(a, b, sizeof *a) != 0; }
 
 int main(void) {
@@ -97,14 +138,22 @@ int main(void) {
     ALL(serves);
     ALL(plains);
     ALL(updates);
+    ALL(plans);
+    choose_moves();
+    ALL(moves);
     ALL(deletes);
     ALL(new);
     different |= differ(&ours, &others);
     for (size_t p = 0; p < M; p++) ours.items[4 * p + 3] = theirs.items[4 * p + 3] = 0;
     boughladder_evicts(&ours), anchor_evicts(&theirs);
-    if (different || differ(&ours, &theirs)) {
+    different |= differ(&ours, &theirs);
+    uint64_t sum = ours.sum;
+    fill(any);
+    choose_places();
+    ALL(enters);
+    if (different || differ(&ours, &theirs) || differ(&ours, &others)) {
         puts("DIFFERENCE between the tables");
         return 1;
     }
-    return ours.sum == 0;
+    return sum == 0 || ours.sum != 0; /* no final store is refused */
 }

@@ -1,9 +1,9 @@
 /*
  * differ.c: the same random calls on the proved table, on the anchor and on the second C table, with equal memory.
  * After EVERY call, in every shape, all fields of the reply and all words of the three runs are compared (and, after a
- * list, all bytes of the buffer). The second table has read, serve, plain_read, set and delete; its other calls are the
- * anchor's.
- * Use: differ [seed [percent]], the percent being the share of 4.6 million calls. It ends with 1 at the first difference.
+ * list, all bytes of the buffer). The second table has read, serve, plain_read, set, delete, plan and the two steps; its other
+ * calls are the anchor's.
+ * Use: differ [seed [percent]], the percent being the share of 5.1 million calls. It ends with 1 at the first difference.
  *
  * An episode is one shape, one herd and one kind of memory:
  *     clean    fresh, then whole calls; the herd grows and shrinks between empty and full
@@ -18,6 +18,17 @@
  * In every episode one entry in RETIRE_SHARE is retired when it has been set: its stamp becomes the mark, as if it were a
  * standing permission from before version 4. No call stores that number. As stamps are no condition of the judge, a clean
  * table stays clean.
+ *
+ * Sets are made in steps, too. Four plans are in hand, and the steps come
+ *     at once    one after the other, right behind their plan
+ *     between    with other calls between, until they are made or the plan is stale
+ *     again      out of turn, or once more
+ *     suited     from no plan, but from the words of the table: so they can mostly be made
+ *     slipped    as one of these, with a slip in one thing: beside the planned number, far above it, or another animal
+ * Behind each plan its steps are made on one copy of our memory and a set on another (on M 4096 behind some of them). Both must
+ * leave the same words; where the plan is refused the set is, with the same number, but 12 is an update or 11. And `due` tells
+ * the refusal of each plan and step once more, from the words of the wish, and what alone stood against it.
+ * Where the memory is not clean, some searches of sets and plans end at the first or the last visit of a level (`aim`).
  *
  * Behind each call come plain reads of our memory, before its words are compared, so that a word that they write shows:
  *     clean    where finished calls from fresh have made the table, in an episode of any kind: of the call's animal, of 0,
@@ -49,12 +60,13 @@
 #define FAR (UINT64_C(1) << 62) /* minutes overdue; beyond them the answer stays the same */
 #define MARK UINT64_MAX /* the stamp of a retired entry */
 #define RETIRE_SHARE 8
+#define IN_HAND 4 /* plans */
 
 enum { OURS, ANCHOR, SECOND, TABLES };
 enum { CLEAN, CUT, POKED, GARBAGE, KINDS };
-enum { FRESH, READ, SERVE, PLAIN, FIND, SET, SETCUT, DELETE, DELETECUT, EVICT, EVICTCUT, LIST, CALLS };
+enum { FRESH, READ, SERVE, PLAIN, FIND, SET, SETCUT, DELETE, DELETECUT, EVICT, EVICTCUT, LIST, PLAN, MOVE, ENTER, CALLS };
 static const char *const call_names[CALLS] = {"fresh", "read", "serve", "plain_read", "find", "set", "set_cut", "delete",
-                                              "delete_cut", "evict", "evict_cut", "list"};
+                                              "delete_cut", "evict", "evict_cut", "list", "plan", "step_move", "step_enter"};
 static const char *const table_names[TABLES] = {"ours", "anchor", "second"};
 static const char *const kind_names[KINDS] = {"clean", "cut", "poked", "garbage"};
 
@@ -91,6 +103,40 @@ static const char *const judged_names[JUDGED] = {"clean tables, each a yes,",
                                                  "one fault in a clean table, each told as planted,", "other memory",
                                                  "any memory with faults and other lengths"};
 
+/* Where a step comes from. */
+enum { AT_ONCE, BETWEEN, AGAIN, SUITED, SLIPPED, ORIGINS };
+static const char *const origin_names[ORIGINS] = {"at once", "between", "again", "suited", "slipped"};
+
+/* What stands against a move and against a final store, a bit each. */
+enum { FROM_OUT = 1, TO_OUT = 2, NO_ENTRY = 4, BAD_ENTRY = 8, OTHER_TAG = 16, TAKEN = 32, OTHER_BUCKET = 64 };
+enum { HELD = 1, PLACE_OUT = 2, SLOT_OUT = 4, NOT_VACANT = 8, NOT_FREE = 16, NO_HOME = 32 };
+
+/* What alone stood against one that was refused 12. What is above so many bits would do if it were cut to them. */
+enum { BY_FROM, BY_TO, BY_BOTH, BY_FREE, BY_FREE_0, BY_TAG_0, BY_TAG_256, BY_PLACE_M, BY_TAG, BY_TAG_8, BY_TAG_16, BY_TAKEN,
+       BY_DAMAGE, BY_OWN, BY_THIRD, MOVE_ABOVE, MOVE_SEVERAL = MOVE_ABOVE + 4, MOVE_WAYS };
+static const char *const move_ways[MOVE_WAYS] = {
+    "source outside", "destination outside", "both outside", "source free", "source free, tag 0 planned", "source's tag 0",
+    "source's tag above 255", "source's place M or more", "another tag", "tag above 8 bits", "tag above 16 bits",
+    "destination taken", "destination damaged", "into its own bucket", "into a third bucket", "source above 16 bits",
+    "source above 32 bits", "destination above 16 bits", "destination above 32 bits", "several"};
+enum { BY_HELD, BY_PLACE, BY_SLOT, BY_PLACE_AND_SLOT, BY_LIVE, BY_WORD, BY_BUCKET, ENTER_ABOVE, ENTER_SEVERAL = ENTER_ABOVE + 4,
+       ENTER_WAYS };
+static const char *const enter_ways[ENTER_WAYS] = {
+    "held", "place outside", "slot outside", "both outside", "place not vacant", "slot not free", "in neither bucket",
+    "place above 16 bits", "place above 32 bits", "slot above 16 bits", "slot above 32 bits", "several"};
+
+/* What did not stand against one that was made. */
+enum { OF_ODD, WHILE_HELD, HERSELF, MOVE_MADES };
+static const char *const move_mades[MOVE_MADES] = {"its counter odd", "the animal held", "her own entry"};
+enum { HIGHER_PLACE, HIGHER_SLOT, OTHER_HOME, TO_0, ENTER_MADES };
+static const char *const enter_mades[ENTER_MADES] = {"not the lowest vacant place", "not the lowest free slot",
+                                                     "the other bucket where the first has room", "the counter comes to 0"};
+
+/* The first and the last visit of each level. */
+enum { VISIT_ENDS = 10 };
+static const uint64_t visit_ends[VISIT_ENDS] = {1, 2, 3, 10, 11, 42, 43, 170, 171, 682};
+static const char *const end_names[VISIT_ENDS] = {"1", "2", "3", "10", "11", "42", "43", "170", "171", "682"};
+
 /* One table: its block of memory, and where the runs lie in it. */
 typedef struct {
     uint64_t block[BLOCK];
@@ -101,7 +147,7 @@ typedef struct {
 
 /* A reply of any call. */
 typedef struct {
-    uint64_t refusal, kind, permission, place, visits, moves, victim, looked, hand, count;
+    uint64_t refusal, kind, permission, place, slot, visits, moves, victim, looked, hand, count, records[4][3];
     int64_t left;
 } Reply;
 
@@ -111,18 +157,33 @@ typedef struct {
     size_t sl, cl, il, hand, buffer_length;
     uint64_t animal, limit, issued, now, k;
     uint32_t permission;
+    BoughladderMove move;
+    size_t place, slot;
+    int origin; /* of a step */
 } Call;
 
-static Table tables[TABLES], *const ours = &tables[OURS];
+/* A plan in hand, and which step comes next; a call that is no plan means none. */
+typedef struct {
+    Call call;
+    Reply told;
+    uint64_t next;
+} Plan;
+
+static Table tables[TABLES], *const ours = &tables[OURS], in_steps, in_one; /* the last two: copies of ours */
+static Plan in_hand[IN_HAND], *hurried /* it is carried out now */, *stepping /* the last step was its next */;
 static uint64_t pool[POOL];
 static size_t n, v, m, pool_size, used; /* used: 64-bit words of the block in use */
 static uint64_t state, seed = 1, percent = 100;
-static uint64_t calls, words, by_call[CALLS], by_refusal[12], by_moves[5], by_load[11], by_kind[KINDS], by_answer[4];
+static uint64_t calls, words, by_call[CALLS], by_refusal[13], by_moves[5], by_load[11], by_kind[KINDS], by_answer[4];
 static uint64_t by_turn[TURNS], by_meeting[2][MEETINGS] /* by cut */, by_mark[CALLS];
 static uint64_t most_visits, large_calls, stopped_cuts, issued_later, asked_after, bytes;
 static uint64_t by_beside[BESIDES], by_bytes[CALLS][9][2]; /* by the bytes of the number: all, those held or stored */
 static int clean; /* whether finished calls from fresh have made the table, all with the lengths that fresh got; marks aside */
 static Plains plains[2]; /* by clean */
+static uint64_t by_plan[3][5]; /* by N 2, 4 and more: the moves of plans */
+static uint64_t by_due[3][14][2] /* plan and steps, by the refusal and whether another stood behind it; 13: 4 by the search */;
+static uint64_t by_origin[ORIGINS][2] /* made, refused 12 */, by_move[MOVE_WAYS], by_enter[ENTER_WAYS], carried_out;
+static uint64_t by_move_made[MOVE_MADES], by_enter_made[ENTER_MADES], by_end[VISIT_ENDS];
 static uint64_t by_verdict[JUDGED][9], by_anchor, judge_state; /* its own draws, so that the calls stay the same */
 
 static uint64_t any(void) { /* splitmix64 */
@@ -214,6 +275,13 @@ static uint32_t hash(uint64_t animal) {
     return h;
 }
 
+static uint32_t tag_of(uint64_t animal) { return hash(animal) >> 24 ? hash(animal) >> 24 : 1; }
+static uint32_t spread(uint32_t tag, size_t buckets) { return (tag * 1540483477u & (uint32_t)(buckets - 1)) | 1u; }
+
+static int is_damaged(uint32_t word, size_t places) {
+    return word != 0 && (word >> 16 == 0 || word >> 16 > 255 || (word & 65535) >= places);
+}
+
 /* Fills a table with random words: some wholly random, some nearly good. */
 static void garbage(void) {
     uint64_t wild = below(3), bad = 1 + below(200), odd = 1 + below(20);
@@ -258,6 +326,33 @@ static void poke(void) {
     clean = 0;
 }
 
+/* Before a set or a plan: its search shall end at the first or the last visit of a level, by free slots or by damage. Where
+   that bucket is an earlier visit's, too, it ends wherever it will. */
+static void aim(uint64_t animal) {
+    uint32_t list[682], first = hash(animal) & (uint32_t)(n - 1), other = first ^ spread(tag_of(animal), n);
+    uint64_t end, how = below(4);
+    uint8_t seen[2048] = {0};
+    do end = visit_ends[below(VISIT_ENDS)];
+    while (end > n);
+    for (uint32_t i = 0; i < end; i++) {
+        uint32_t parent = i > 1 ? list[(i - 2) / 4] : 0;
+        list[i] = i == 0 ? first : i == 1 ? other : parent ^ spread(ours->slots[4 * parent + (i - 2) % 4] >> 16, n);
+        uint32_t *four = ours->slots + 4 * list[i];
+        if (i + 1 == end && !seen[list[i]]) {
+            if (how > 0) four[below(4)] = 0, four[below(4)] = 0;
+            if (how < 2) four[below(4)] = UINT32_C(256) << 16;
+            break;
+        }
+        for (int k = 0; k < 4; k++)
+            if (four[k] == 0 || is_damaged(four[k], m)) four[k] = (uint32_t)((1 + below(255)) << 16 | below(m));
+        seen[list[i]] = 1;
+    }
+    ours->counters[(first < other ? first : other) % v] &= ~UINT32_C(1);
+    ours->items[4 * below(m)] = 0;
+    for (int k = 1; k < TABLES; k++) memcpy(tables[k].block, ours->block, 8 * used);
+    clean = 0;
+}
+
 static Reply of_reading(BoughladderReading x) {
     Reply r;
     memset(&r, 0, sizeof r);
@@ -265,8 +360,7 @@ static Reply of_reading(BoughladderReading x) {
     return r;
 }
 
-static Reply make(const Call *c, int who) {
-    Table *t = &tables[who];
+static Reply make(const Call *c, int who, Table *t) {
     BoughladderTable second = {t->slots, c->sl, t->counters, c->cl, t->items, c->il};
     Reply r;
     memset(&r, 0, sizeof r);
@@ -299,6 +393,15 @@ static Reply make(const Call *c, int who) {
         r.refusal = x.refusal; r.victim = x.victim; r.looked = x.looked; r.hand = x.hand;
         break;
     }
+    case PLAN: {
+        BoughladderPlan x = ANY(plan, c->animal, c->permission, c->issued, c->now);
+        r.refusal = x.refusal; r.count = x.count; r.place = x.place; r.slot = x.slot;
+        for (int i = 0; i < 4; i++)
+            r.records[i][0] = x.moves[i].from, r.records[i][1] = x.moves[i].tag, r.records[i][2] = x.moves[i].to;
+        break;
+    }
+    case MOVE: r.refusal = ANY(step_move, c->move, c->animal, c->permission, c->issued, c->now); break;
+    case ENTER: r.refusal = ANY(step_enter, c->place, c->slot, c->animal, c->permission, c->issued, c->now); break;
     default: {
         BoughladderListing x = EITHER(list, TABLE, t->buffer, c->buffer_length);
         r.refusal = x.refusal; r.count = x.count;
@@ -312,16 +415,25 @@ static void tell(const char *who, const Reply *r) {
            " moves %" PRIu64 " victim %" PRIu64 " looked %" PRIu64 " hand %" PRIu64 " count %" PRIu64 "\n",
            who, r->refusal, r->kind, r->permission, r->left, r->place, r->visits, r->moves, r->victim, r->looked, r->hand,
            r->count);
+    printf("         slot %" PRIu64, r->slot);
+    for (int i = 0; i < 4; i++)
+        printf(" move %" PRIu64 " %" PRIu64 " %" PRIu64, r->records[i][0], r->records[i][1], r->records[i][2]);
+    printf("\n");
+}
+
+static void tell_call(const Call *c, const char *where, int kind) {
+    printf("DIFFERENCE %s call %" PRIu64 ", seed %" PRIu64 ", memory %s, N %zu V %zu M %zu\n", where, calls, seed, kind_names[kind], n, v, m);
+    printf("  %s lengths %zu %zu %zu animal %" PRIu64 " permission %" PRIu32 " limit %" PRIu64 " issued %" PRIu64 " now %" PRIu64
+           " hand %zu k %" PRIu64 " buffer %zu\n",
+           call_names[c->call], c->sl, c->cl, c->il, c->animal, c->permission, c->limit, c->issued, c->now, c->hand, c->k,
+           c->buffer_length);
+    printf("  move %zu %" PRIu32 " %zu place %zu slot %zu\n", c->move.from, c->move.tag, c->move.to, c->place, c->slot);
 }
 
 static void differs(const Call *c, const Reply *a, const Reply *b, int who, int kind) {
     const Table *other = &tables[who];
     const char *name = table_names[who];
-    printf("DIFFERENCE at call %" PRIu64 ", seed %" PRIu64 ", memory %s, N %zu V %zu M %zu\n", calls, seed, kind_names[kind], n, v, m);
-    printf("  %s lengths %zu %zu %zu animal %" PRIu64 " permission %" PRIu32 " limit %" PRIu64 " issued %" PRIu64 " now %" PRIu64
-           " hand %zu k %" PRIu64 " buffer %zu\n",
-           call_names[c->call], c->sl, c->cl, c->il, c->animal, c->permission, c->limit, c->issued, c->now, c->hand, c->k,
-           c->buffer_length);
+    tell_call(c, "at", kind);
     tell("ours", a);
     tell(name, b);
     int told = 0;
@@ -341,7 +453,9 @@ static void differs(const Call *c, const Reply *a, const Reply *b, int who, int 
     exit(1);
 }
 
-static int writes(const Call *c) { return c->call != READ && c->call != PLAIN && c->call != FIND && c->call != LIST; }
+static int writes(const Call *c) {
+    return c->call != READ && c->call != PLAIN && c->call != FIND && c->call != LIST && c->call != PLAN;
+}
 
 /* A length that is wrong or shorter; never one that is both good and longer than the memory. A call that writes gets only
    wrong ones where the memory is to stay clean. */
@@ -389,6 +503,133 @@ static int meeting(const Call *c) {
     return stamp < c->issued ? EARLIER : stamp == c->issued ? EQUAL : LATER;
 }
 
+/* A random slot, free or occupied, or a random vacant place; or NOWHERE. */
+static size_t a_slot(int occupied) {
+    for (size_t i = 0, from = below(4 * n); i < 4 * n; i++)
+        if ((ours->slots[(from + i) % (4 * n)] != 0) == occupied) return (from + i) % (4 * n);
+    return NOWHERE;
+}
+
+static size_t a_vacant_place(void) {
+    for (size_t i = 0, from = below(m); i < m; i++)
+        if (ours->items[4 * ((from + i) % m)] == 0) return (from + i) % m;
+    return NOWHERE;
+}
+
+/* A free slot of a bucket, or any of it. */
+static size_t a_slot_in(size_t bucket) {
+    size_t from = below(4);
+    for (size_t i = 0; i < 4; i++)
+        if (ours->slots[4 * bucket + (from + i) % 4] == 0) return 4 * bucket + (from + i) % 4;
+    return 4 * bucket + from;
+}
+
+/* Whoever stands at a slot, as if it could be moved: also where it is free or damaged. */
+static void suit_move(Call *c) {
+    size_t from = a_slot(!one_in(12)), i = 0;
+    if (from == NOWHERE) from = below(4 * n);
+    if (!clean && one_in(2)) {
+        while (i < 4 * n && !is_damaged(ours->slots[(from + i) % (4 * n)], m)) i++;
+        from = (from + i) % (4 * n);
+    }
+    uint32_t tag = ours->slots[from] >> 16;
+    c->call = MOVE;
+    c->move = (BoughladderMove){from, tag, a_slot_in(from / 4 ^ spread(tag, n))};
+}
+
+/* The animal into a vacant place and a free slot, where there are any. */
+static void suit_enter(Call *c) {
+    size_t place = a_vacant_place(), first = hash(c->animal) & (uint32_t)(n - 1);
+    c->call = ENTER;
+    c->place = place == NOWHERE ? below(m) : place;
+    c->slot = a_slot_in(one_in(2) ? first : first ^ spread(tag_of(c->animal), n));
+}
+
+/* A number that is not the planned one: beside it, in the next bucket, with a bit above 16 more, about the end of the run, or
+   any. */
+static uint64_t another(uint64_t planned, uint64_t length) {
+    uint64_t bits = below(64);
+    switch (below(8)) {
+    case 0: return planned + 1;
+    case 1: return planned - 1;
+    case 2: return planned + 4;
+    case 3: return planned - 4;
+    case 4: case 5: return planned + (UINT64_C(1) << (16 + bits % 48));
+    case 6: return length + below(6) - 1;
+    default: return one_in(2) ? UINT64_MAX - below(4) : any() >> bits;
+    }
+}
+
+static uint32_t another_tag(uint32_t planned) {
+    switch (below(6)) {
+    case 0: return planned + 1;
+    case 1: return planned - 1;
+    case 2: case 3: return planned + (UINT32_C(1) << (8 + below(24)));
+    case 4: return (uint32_t)(one_in(2) ? 0 : 255 + below(2));
+    default: return (uint32_t)any();
+    }
+}
+
+/* A slip in one thing. */
+static void slip(Call *c) {
+    size_t kept = c->move.from;
+    c->origin = SLIPPED;
+    if (one_in(12)) c->animal = an_animal();
+    else if (c->call == ENTER && one_in(2)) c->place = another(c->place, m);
+    else if (c->call == ENTER) c->slot = another(c->slot, 4 * n);
+    else switch (below(5)) {
+    case 0: c->move.tag = another_tag(c->move.tag); break;
+    case 1: c->move.from = another(c->move.from, 4 * n); break;
+    case 2: c->move.to = another(c->move.to, 4 * n); break;
+    case 3: c->move.to = one_in(2) ? a_slot_in(c->move.from / 4 % n) : a_slot(0); break;
+    default: c->move.from = c->move.to, c->move.to = kept;
+    }
+}
+
+/* A step of a plan: a move, or behind the last the final store. */
+static void step_of(Call *c, const Plan *plan, uint64_t which) {
+    const uint64_t *record = plan->told.records[which % 4];
+    c->call = which < plan->told.count ? MOVE : ENTER;
+    c->animal = plan->call.animal, c->permission = plan->call.permission;
+    c->issued = plan->call.issued, c->now = plan->call.now;
+    c->move = (BoughladderMove){record[0], (uint32_t)record[1], record[2]};
+    c->place = plan->told.place, c->slot = plan->told.slot;
+}
+
+static void a_step(Call *c) {
+    Plan *plan = hurried ? hurried : &in_hand[below(IN_HAND)];
+    Call own = *c;
+    stepping = NULL;
+    int done = plan->next > plan->told.count;
+    if (hurried || (plan->call.call == PLAN && (done ? one_in(6) : !one_in(3)))) {
+        int next = hurried || (!done && !one_in(6));
+        step_of(c, plan, next ? plan->next : below(plan->told.count + 1));
+        if (next) stepping = plan;
+        c->origin = hurried ? AT_ONCE : next ? BETWEEN : AGAIN;
+        if (!hurried && one_in(6)) c->permission = own.permission, c->issued = own.issued, c->now = own.now;
+    } else {
+        c->origin = SUITED;
+        if (one_in(3)) suit_enter(c);
+        else suit_move(c);
+    }
+    if (hurried || !one_in(3)) return;
+    stepping = NULL;
+    do slip(c);
+    while (one_in(6));
+}
+
+/* An animal whose buckets are full, if a few draws find one: her plan has moves. */
+static uint64_t a_crowded_animal(void) {
+    uint64_t animal = 0, full = 0;
+    for (int tries = 0; tries < 6 && full < 8; tries++) {
+        animal = one_in(2) ? pool[below(pool_size)] : a_number(a_length());
+        size_t first = hash(animal) & (uint32_t)(n - 1), other = first ^ spread(tag_of(animal), n);
+        full = 0;
+        for (int i = 0; i < 4; i++) full += (ours->slots[4 * first + i] != 0) + (ours->slots[4 * other + i] != 0);
+    }
+    return animal;
+}
+
 static Call a_call(int kind, int growing, size_t hand, const Call *last) {
     Call c;
     memset(&c, 0, sizeof c);
@@ -430,6 +671,11 @@ static Call a_call(int kind, int growing, size_t hand, const Call *last) {
         if (c.call == SET) { c.call = SETCUT; c.k = 23 + below(3); }
         if (c.call == DELETE) { c.call = DELETECUT; c.k = 7; }
     }
+    if (c.call == SET && one_in(4)) {
+        c.call = PLAN;
+        if (!one_in(3)) c.animal = a_crowded_animal();
+    }
+    if (hurried || one_in(7)) a_step(&c);
     if (one_in(60)) c.hand = one_in(3) ? m + below(2) : one_in(20) ? SIZE_MAX : below(m);
     if (one_in(150)) bend_lengths(&c, kind);
     c.buffer_length = one_in(2) ? BUFFER : below(20 * m + 20);
@@ -443,12 +689,13 @@ static size_t live_places(void) {
     return live;
 }
 
+static int has_lengths(const Call *c) { return c->sl == 4 * n && c->cl == v && c->il == 4 * m; }
+
 /* After a call: whether the table is clean. */
 static int stays_clean(const Call *c, const Reply *told) {
-    int whole = c->sl == 4 * n && c->cl == v && c->il == 4 * m;
     if (told->refusal != 0 || !writes(c)) return clean;
-    if (c->call == FRESH) return whole;
-    return clean && whole && c->call != SETCUT && c->call != DELETECUT && c->call != EVICTCUT;
+    if (c->call == FRESH) return has_lengths(c);
+    return clean && has_lengths(c) && c->call != SETCUT && c->call != DELETECUT && c->call != EVICTCUT;
 }
 
 /* A limit and a minute for a stamp: good ones, bad ones, and those at which the answer turns. */
@@ -473,13 +720,15 @@ static void retire(const Call *c) {
         tables[k].items[4 * f.place + 2] = MARK, tables[k].items[4 * f.place + 3] = recent;
 }
 
-/* Whether a call met a retired entry, a serve one where a store would show. Ours was made; the anchor's memory is as before. */
+/* Whether a call met a retired entry, a serve one where a store would show; a plan or a final store is refused 12 by it. Ours
+   was made; the anchor's memory is as before. */
 static int met_mark(const Call *c, const Reply *told) {
     const Table *t = &tables[ANCHOR];
     size_t place = 0, places = c->il / 4;
-    if (told->refusal != 0) return 0;
+    if (told->refusal != 0 && (told->refusal != 12 || c->call == MOVE)) return 0;
     switch (c->call) {
     case FRESH: return 0;
+    case MOVE: place = t->slots[c->move.from] & 65535; break;
     case LIST:
         while (place < places && (t->items[4 * place] == 0 || t->items[4 * place + 2] != MARK)) place++;
         break;
@@ -571,12 +820,203 @@ static void ask_plainly(const Call *q, int kind) {
     count_plain(q, plain);
 }
 
+/* The conditions of a move, by the words of wish 7. Where the source is free, the planned tag is taken for the entry's. */
+static unsigned against_move(const Table *t, const Call *c, BoughladderMove move) {
+    unsigned broken = 0;
+    if (move.from >= c->sl) broken |= FROM_OUT;
+    if (move.to >= c->sl) broken |= TO_OUT;
+    if (!(broken & TO_OUT) && t->slots[move.to] != 0) broken |= TAKEN;
+    if (broken & FROM_OUT) return broken;
+    uint32_t word = t->slots[move.from], tag = word == 0 ? move.tag : word >> 16;
+    if (word == 0) broken |= NO_ENTRY;
+    if (is_damaged(word, c->il / 4)) broken |= BAD_ENTRY;
+    if (tag != move.tag) broken |= OTHER_TAG;
+    if (!(broken & TO_OUT) && move.to / 4 != (move.from / 4 ^ spread(tag, c->sl / 4))) broken |= OTHER_BUCKET;
+    return broken;
+}
+
+static void count_move(const Table *t, const Call *c) {
+    const BoughladderMove *move = &c->move;
+    uint32_t word = move->from < c->sl ? t->slots[move->from] : 0, tag = word >> 16;
+    switch (against_move(t, c, *move)) {
+    case FROM_OUT: by_move[BY_FROM]++; break;
+    case TO_OUT: by_move[BY_TO]++; break;
+    case FROM_OUT | TO_OUT: by_move[BY_BOTH]++; break;
+    case NO_ENTRY: by_move[move->tag == 0 ? BY_FREE_0 : BY_FREE]++; break;
+    case BAD_ENTRY: by_move[tag == 0 ? BY_TAG_0 : tag > 255 ? BY_TAG_256 : BY_PLACE_M]++; break;
+    case OTHER_TAG: by_move[(move->tag & 65535) == tag ? BY_TAG_16 : (move->tag & 255) == tag ? BY_TAG_8 : BY_TAG]++; break;
+    case TAKEN: by_move[is_damaged(t->slots[move->to], c->il / 4) ? BY_DAMAGE : BY_TAKEN]++; break;
+    case OTHER_BUCKET: by_move[move->to / 4 == move->from / 4 ? BY_OWN : BY_THIRD]++; break;
+    default: by_move[MOVE_SEVERAL]++;
+    }
+    for (int i = 0; i < 4; i++) {
+        BoughladderMove cut = *move;
+        *(i < 2 ? &cut.from : &cut.to) &= i % 2 ? UINT32_MAX : UINT16_MAX;
+        by_move[MOVE_ABOVE + i] += !against_move(t, c, cut);
+    }
+}
+
+/* Whether a home slot leads to the animal. */
+static int is_held(const Table *t, const Call *c) {
+    uint32_t tag = tag_of(c->animal), first = hash(c->animal) & (uint32_t)(c->sl / 4 - 1);
+    for (uint32_t i = 0; i < 8; i++) {
+        uint32_t word = t->slots[4 * (i < 4 ? first : first ^ spread(tag, c->sl / 4)) + i % 4];
+        if (word >> 16 == tag && (word & 65535) < c->il / 4 && t->items[4 * (word & 65535)] == c->animal) return 1;
+    }
+    return 0;
+}
+
+/* Those of the final store. */
+static unsigned against_enter(const Table *t, const Call *c, size_t place, size_t slot) {
+    size_t first = hash(c->animal) & (uint32_t)(c->sl / 4 - 1), other = first ^ spread(tag_of(c->animal), c->sl / 4);
+    unsigned broken = is_held(t, c) ? HELD : 0;
+    if (place >= c->il / 4) broken |= PLACE_OUT;
+    else if (t->items[4 * place] != 0) broken |= NOT_VACANT;
+    if (slot >= c->sl) return broken | SLOT_OUT;
+    if (t->slots[slot] != 0) broken |= NOT_FREE;
+    if (slot / 4 != first && slot / 4 != other) broken |= NO_HOME;
+    return broken;
+}
+
+static void count_enter(const Table *t, const Call *c) {
+    switch (against_enter(t, c, c->place, c->slot)) {
+    case HELD: by_enter[BY_HELD]++; break;
+    case PLACE_OUT: by_enter[BY_PLACE]++; break;
+    case SLOT_OUT: by_enter[BY_SLOT]++; break;
+    case PLACE_OUT | SLOT_OUT: by_enter[BY_PLACE_AND_SLOT]++; break;
+    case NOT_VACANT: by_enter[BY_LIVE]++; break;
+    case NOT_FREE: by_enter[BY_WORD]++; break;
+    case NO_HOME: by_enter[BY_BUCKET]++; break;
+    default: by_enter[ENTER_SEVERAL]++;
+    }
+    for (int i = 0; i < 4; i++) {
+        size_t most = i % 2 ? UINT32_MAX : UINT16_MAX;
+        by_enter[ENTER_ABOVE + i] += !against_enter(t, c, i < 2 ? c->place & most : c->place, i < 2 ? c->slot : c->slot & most);
+    }
+}
+
+static size_t lowest_vacant(const Table *t, const Call *c) {
+    size_t place = 0;
+    while (place < c->il / 4 && t->items[4 * place] != 0) place++;
+    return place;
+}
+
+/* The refusal of a plan or a step by the words of the documents; of a plan that comes to the search, 0. *later is whether
+   another one stood behind it. */
+static uint64_t due(Table *t, const Call *c, int *later) {
+    static const uint64_t turns[] = {1, 2, 3, 8, 4, 12, 5};
+    int bad[7] = {0}, i = 0;
+    bad[0] = c->sl < 8 || c->sl > 8192 || (c->sl & (c->sl - 1)) != 0 || c->cl < 1 || c->cl > 1024 || c->il < 4 ||
+             c->il > 16384 || c->il % 4 != 0;
+    bad[1] = c->animal == 0;
+    bad[2] = c->now == UINT64_MAX || c->issued > c->now;
+    if (!bad[0]) {
+        uint32_t first = hash(c->animal) & (uint32_t)(c->sl / 4 - 1), other = first ^ spread(tag_of(c->animal), c->sl / 4);
+        bad[3] = t->counters[(first < other ? first : other) % c->cl] % 2 != 0;
+        for (int k = 0; k < 4; k++)
+            bad[4] |= is_damaged(t->slots[4 * first + k], c->il / 4) || is_damaged(t->slots[4 * other + k], c->il / 4);
+        bad[5] = (c->call == MOVE    ? against_move(t, c, c->move)
+                  : c->call == ENTER ? against_enter(t, c, c->place, c->slot)
+                                     : (unsigned)is_held(t, c)) != 0;
+        if (c->call == PLAN) bad[6] = lowest_vacant(t, c) == c->il / 4;
+    }
+    while (i < 7 && !bad[i]) i++;
+    *later = 0;
+    for (int k = i + 1; k < 7; k++) *later |= bad[k];
+    if (i == 6) { /* the search, if place 0 were vacant */
+        uint64_t number = t->items[0];
+        t->items[0] = 0;
+        *later = anchor_plan(t->slots, c->sl, t->counters, c->cl, t->items, c->il, c->animal, 0, 0, 0).refusal != 0;
+        t->items[0] = number;
+    }
+    return i < 7 ? turns[i] : 0;
+}
+
+static void count_made(const Table *t, const Call *c) {
+    uint32_t first = hash(c->animal) & (uint32_t)(c->sl / 4 - 1), other = first ^ spread(tag_of(c->animal), c->sl / 4);
+    if (c->call == MOVE) {
+        size_t a = c->move.from / 4, b = c->move.to / 4;
+        by_move_made[OF_ODD] += t->counters[(a < b ? a : b) % c->cl] % 2;
+        by_move_made[WHILE_HELD] += (uint64_t)is_held(t, c);
+        by_move_made[HERSELF] += t->items[4 * (t->slots[c->move.from] & 65535)] == c->animal;
+        return;
+    }
+    size_t lowest = c->slot & ~(size_t)3, room = 4 * first;
+    while (t->slots[lowest] != 0) lowest++;
+    while (room < 4 * first + 4 && t->slots[room] != 0) room++;
+    by_enter_made[HIGHER_PLACE] += c->place != lowest_vacant(t, c);
+    by_enter_made[HIGHER_SLOT] += c->slot != lowest;
+    by_enter_made[OTHER_HOME] += c->slot / 4 == other && room < 4 * first + 4;
+    by_enter_made[TO_0] += t->counters[(first < other ? first : other) % c->cl] == UINT32_MAX - 1;
+}
+
+/* A plan or a step was made on ours; the anchor's memory is as before. */
+static void review(const Call *c, const Reply *told, int kind) {
+    Table *t = &tables[ANCHOR];
+    int later, by_search;
+    uint64_t refusal = due(t, c, &later);
+    by_search = c->call == PLAN && refusal == 0 && (told->refusal == 4 || told->refusal == 6);
+    if (told->refusal != refusal && !by_search) {
+        tell_call(c, "from what is due, at", kind);
+        tell("ours", told);
+        printf("  due    refusal %" PRIu64 "\n", refusal);
+        exit(1);
+    }
+    by_due[c->call - PLAN][by_search && told->refusal == 4 ? 13 : told->refusal][later]++;
+    if (c->call == PLAN && told->refusal == 0 && told->count < 5) by_plan[n == 2 ? 0 : n == 4 ? 1 : 2][told->count]++;
+    if (c->call != PLAN && (told->refusal == 0 || told->refusal == 12)) by_origin[c->origin][told->refusal == 12]++;
+    if (c->call != PLAN && told->refusal == 0) count_made(t, c);
+    if (c->call == MOVE && told->refusal == 12) count_move(t, c);
+    if (c->call == ENTER && told->refusal == 12) count_enter(t, c);
+}
+
+/* Behind a plan: its steps on one copy of our memory, a set on another. */
+static void carry_out(const Call *c, const Reply *plan, int kind) {
+    Plan made = {*c, *plan, 0};
+    Call step = *c, set = *c;
+    Reply last = *plan;
+    memcpy(in_steps.block, ours->block, 8 * used);
+    memcpy(in_one.block, ours->block, 8 * used);
+    for (uint64_t i = 0; i <= plan->count && last.refusal == 0; i++) {
+        step_of(&step, &made, i);
+        last = make(&step, OURS, &in_steps);
+    }
+    set.call = SET;
+    Reply whole = make(&set, OURS, &in_one);
+    int held = plan->refusal == 12, same = memcmp(in_steps.block, in_one.block, 8 * used) == 0;
+    carried_out++;
+    for (int i = 0; i < VISIT_ENDS; i++) by_end[i] += whole.visits == visit_ends[i];
+    if (held ? whole.refusal == 11 || (whole.refusal == 0 && whole.visits == 0)
+             : same && last.refusal == whole.refusal && plan->count == whole.moves)
+        return;
+    tell_call(c, "between the steps and a set, behind", kind);
+    tell("plan", plan);
+    tell("step", &last);
+    tell("set", &whole);
+    exit(1);
+}
+
+/* What comes of a plan or a step: a plan is taken in hand, and carried out at once or later; a step leads on, or shows that the
+   plan is stale. */
+static void go_on(const Call *c, const Reply *told) {
+    if (c->call == PLAN && told->refusal == 0) {
+        Plan *plan = &in_hand[below(IN_HAND)];
+        *plan = (Plan){*c, *told, 0};
+        hurried = has_lengths(c) && one_in(2) ? plan : NULL;
+    } else if ((c->call == MOVE || c->call == ENTER) && stepping) {
+        stepping->next += told->refusal == 0 || (told->refusal == 12 && one_in(2));
+        if (told->refusal != 0 || c->call == ENTER) hurried = NULL;
+    }
+}
+
 /* The plain reads behind a call. */
 static void audit(const Call *c, int kind, size_t live, int all) {
     static const size_t wrong[] = {0, 1, 2, 3, 5, 16385, 16387, 16388, 32768, SIZE_MAX - 3, ((size_t)1 << 32) + 4,
                                    ((size_t)1 << 34) + 4};
     Call q = *c;
     q.il = !one_in(16) ? 4 * m : clean || one_in(2) ? wrong[below(12)] : 1 + below(4 * m);
+    if (clean && c->call == MOVE && c->move.to < 4 * n) /* rather of whom it has moved */
+        q.animal = ours->items[4 * (ours->slots[c->move.to] & 65535)];
     if (clean) a_time(&q, c->issued), ask_plainly(&q, kind);
     if (!all) return;
     if (clean) {
@@ -621,19 +1061,6 @@ static void put_back(void) {
         if (kept[kept_count].narrow) *kept[kept_count].narrow = (uint32_t)kept[kept_count].was;
         else *kept[kept_count].wide = kept[kept_count].was;
     }
-}
-
-/* A random slot, free or occupied, or a random vacant place; or NOWHERE. */
-static size_t a_slot(int occupied) {
-    for (size_t i = 0, from = below(4 * n); i < 4 * n; i++)
-        if ((ours->slots[(from + i) % (4 * n)] != 0) == occupied) return (from + i) % (4 * n);
-    return NOWHERE;
-}
-
-static size_t a_vacant_place(void) {
-    for (size_t i = 0, from = below(m); i < m; i++)
-        if (ours->items[4 * ((from + i) % m)] == 0) return (from + i) % m;
-    return NOWHERE;
 }
 
 /* The word of an animal at a place goes into a random free slot of her two buckets, or of the others. */
@@ -780,7 +1207,11 @@ static void episode(int large, int kind, uint64_t length) {
     pool_size = room + room / 3 + 3;
     gather();
     for (int k = 0; k < TABLES; k++) lay_out(&tables[k]);
-    for (size_t i = 0; i < used; i++) ours->block[i] = any();
+    lay_out(&in_steps), lay_out(&in_one);
+    memset(in_hand, 0, sizeof in_hand);
+    hurried = NULL;
+    int zeros = one_in(2); /* around the runs, as if a slot were free and a place vacant there */
+    for (size_t i = 0; i < used; i++) ours->block[i] = zeros ? 0 : any();
     if (kind == GARBAGE) garbage();
     for (size_t i = 0; i < BUFFER; i++) ours->buffer[i] = (uint8_t)any();
     for (int k = 1; k < TABLES; k++) {
@@ -806,10 +1237,15 @@ static void episode(int large, int kind, uint64_t length) {
         if (kind == CUT && one_in(3000)) c.call = FRESH; /* or the busy counters would stop everything */
         if (i % 16 == 0) load = live_places();
         int setting = c.call == SET || c.call == SETCUT, met = setting ? meeting(&c) : NOBODY;
-        Reply told = make(&c, OURS);
+        int aimed = kind >= POKED && (c.call == PLAN || c.call == SET) && one_in(large ? 8 : 100);
+        if (aimed) aim(c.animal);
+        Reply told = make(&c, OURS, ours);
         calls++;
         clean = stays_clean(&c, &told);
+        if (c.call == PLAN || c.call == MOVE || c.call == ENTER) review(&c, &told, kind);
         int marked = met_mark(&c, &told);
+        if (c.call == PLAN && (!large || aimed || one_in(LARGE_SHARE))) carry_out(&c, &told, kind);
+        go_on(&c, &told);
         audit(&c, kind, load, !large || i % LARGE_SHARE == 0);
         if (!large || i % JUDGE_SHARE == 0) {
             uint64_t drawn = state;
@@ -819,7 +1255,7 @@ static void episode(int large, int kind, uint64_t length) {
             state = drawn;
         }
         for (int k = 1; k < TABLES; k++) {
-            Reply other = make(&c, k);
+            Reply other = make(&c, k, &tables[k]);
             int same = memcmp(&told, &other, sizeof told) == 0 && memcmp(ours->block, tables[k].block, 8 * used) == 0;
             words += 4 * n + v + 4 * m;
             if (c.call == LIST) {
@@ -832,7 +1268,7 @@ static void episode(int large, int kind, uint64_t length) {
         by_mark[c.call] += (uint64_t)marked;
         uint64_t *by_length = by_bytes[c.call][bytes_of(c.animal)];
         by_length[0]++;
-        by_length[1] += told.refusal == 11 || (told.refusal == 0 && (told.kind != 0 || c.call == SET || c.call == DELETE));
+        by_length[1] += told.refusal == 11 || (told.refusal == 0 && (told.kind != 0 || c.call == SET || c.call == DELETE || c.call >= PLAN));
         by_kind[kind]++;
         large_calls += (uint64_t)large;
         by_refusal[told.refusal]++;
@@ -852,7 +1288,7 @@ static void episode(int large, int kind, uint64_t length) {
         }
         if ((c.call == SETCUT || c.call == DELETECUT || c.call == EVICTCUT) && told.refusal == 0) stopped_cuts++;
         if ((c.call == EVICT || c.call == EVICTCUT) && told.refusal == 0) hand = told.hand;
-        if (c.call == SET && told.refusal == 0 && one_in(RETIRE_SHARE)) retire(&c);
+        if ((c.call == SET || c.call == ENTER) && told.refusal == 0 && one_in(RETIRE_SHARE)) retire(&c);
     }
 }
 
@@ -871,10 +1307,10 @@ int main(int argc, char **argv) {
     if (argc > 2) percent = strtoull(argv[2], NULL, 10);
     state = seed;
     judge_state = ~seed;
-    while (by_kind[CLEAN] + by_kind[CUT] + by_kind[POKED] < 30000 * percent)
+    while (by_kind[CLEAN] + by_kind[CUT] + by_kind[POKED] < 33000 * percent)
         episode(0, (int)below(3), 1 + below(9000));
-    while (by_kind[GARBAGE] < 10000 * percent) episode(0, GARBAGE, 1 + below(200));
-    for (int i = 0; i < 30; i++) episode(1, i < 12 ? CLEAN : i < 20 ? CUT : i < 26 ? POKED : GARBAGE, 200 * percent);
+    while (by_kind[GARBAGE] < 11000 * percent) episode(0, GARBAGE, 1 + below(200));
+    for (int i = 0; i < 30; i++) episode(1, i < 12 ? CLEAN : i < 20 ? CUT : i < 26 ? POKED : GARBAGE, 220 * percent);
 
     printf("differ: seed %" PRIu64 ", %" PRIu64 " calls on three tables (%" PRIu64 " of them on N 512 to 2048 with M 4096), no difference\n", seed, calls, large_calls);
     printf("compared after every call: all fields of the reply, all words of the runs (%" PRIu64 " words), list buffers (%" PRIu64 " bytes)\n", words, bytes);
@@ -883,7 +1319,7 @@ int main(int argc, char **argv) {
     printf("\ncalls:");
     for (int i = 0; i < CALLS; i++) printf("  %s %" PRIu64, call_names[i], by_call[i]);
     printf("\nrefusals:");
-    for (int i = 0; i < 12; i++) printf("  %d: %" PRIu64, i, by_refusal[i]);
+    for (int i = 0; i < 13; i++) printf("  %d: %" PRIu64, i, by_refusal[i]);
     printf("\nsets that were stored or refused 11, by the held stamp:");
     tell_counts(meeting_names, by_meeting[0], 0, MEETINGS);
     printf("\n  cut:");
@@ -894,9 +1330,9 @@ int main(int argc, char **argv) {
     printf("\nread and serve:  absent %" PRIu64 "  fresh %" PRIu64 "  old %" PRIu64 "  ahead %" PRIu64, by_answer[0], by_answer[1], by_answer[2], by_answer[3]);
     printf("\n  left:");
     tell_counts(turn_names, by_turn, 0, TURNS);
-    printf("\nby the bytes of the animal's number that are in use (in brackets: she was held, or stored):");
-    static const int shown[] = {READ, SERVE, SET, DELETE};
-    for (int i = 0; i < 4; i++) {
+    printf("\nby the bytes of the animal's number that are in use (in brackets: she was held, stored or planned for):");
+    static const int shown[] = {READ, SERVE, SET, DELETE, PLAN, MOVE, ENTER};
+    for (int i = 0; i < 7; i++) {
         printf("\n  %s", call_names[shown[i]]);
         for (int k = 1; k < 9; k++)
             printf("  %d: %" PRIu64 " (%" PRIu64 ")", k, by_bytes[shown[i]][k][0], by_bytes[shown[i]][k][1]);
@@ -925,6 +1361,40 @@ int main(int argc, char **argv) {
     }
     printf("\nmoves of new entries:");
     for (int i = 0; i < 5; i++) printf("  %d: %" PRIu64, i, by_moves[i]);
+    printf("\nplans and steps, by refusal (in brackets: another one stood behind it):");
+    static const int turns[] = {0, 1, 2, 3, 8, 4, 12, 5, 13, 6};
+    for (int i = 0; i < 3; i++) {
+        printf("\n  %s", call_names[PLAN + i]);
+        for (int k = 0; k < (i == 0 ? 10 : 7); k++) {
+            const uint64_t *count = by_due[i][turns[k]];
+            int last = k == 0 || k > 7 || (i > 0 && k == 6);
+            if (turns[k] == 13) printf("  4 by the search: %" PRIu64, count[0]);
+            else printf("  %d: %" PRIu64, turns[k], count[0] + count[1]);
+            if (!last) printf(" (%" PRIu64 ")", count[1]);
+            missing += percent >= 100 && (count[0] + count[1] == 0 || (!last && count[1] == 0));
+        }
+    }
+    static const char *const up_to_4[] = {"0", "1", "2", "3", "4"};
+    static const int longest[] = {0, 2, 4}; /* the buckets of a chain differ, and it does not pass the other home */
+    for (int i = 0; i < 3; i++) {
+        printf("\n  moves of plans on N %s:", i == 0 ? "2" : i == 1 ? "4" : "8 to 2048");
+        tell_counts(up_to_4, by_plan[i], 0, longest[i] + 1);
+    }
+    printf("\n  carried out on one copy, and a set on another: %" PRIu64 "; its visits:", carried_out);
+    tell_counts(end_names, by_end, 0, VISIT_ENDS);
+    printf("\n  steps that were made (in brackets: refused 12):");
+    for (int i = 0; i < ORIGINS; i++) {
+        printf("  %s: %" PRIu64 " (%" PRIu64 ")", origin_names[i], by_origin[i][0], by_origin[i][1]);
+        missing += percent >= 100 && (by_origin[i][0] == 0 || (i != AT_ONCE && by_origin[i][1] == 0));
+    }
+    printf("\n  moves that were made:");
+    tell_counts(move_mades, by_move_made, 0, MOVE_MADES);
+    printf("\n  final stores that were made:");
+    tell_counts(enter_mades, by_enter_made, 0, ENTER_MADES);
+    printf("\n  what alone stood against a move:");
+    tell_counts(move_ways, by_move, 0, MOVE_WAYS);
+    printf("\n  against the final store:");
+    tell_counts(enter_ways, by_enter, 0, ENTER_WAYS);
     printf("\nmost visits: %" PRIu64 "\ncut calls that were not refused: %" PRIu64 "\n", most_visits, stopped_cuts);
     printf("calls by load (live places of min(M, 4N), in tenths):");
     for (int i = 0; i < 11; i++) printf("  %d0%%: %" PRIu64, i, by_load[i]);

@@ -12,7 +12,7 @@
 #define COUNTERS_MOST 1024
 #define ITEMS_MOST 4096
 #define BUFFER_MOST 81920
-#define WORDS 8 /* one more than the longest call has, a run aside, so that a word too many is seen */
+#define WORDS 9 /* one more than the longest call has, a run aside, so that a word too many is seen */
 
 /* The longest answer is a dump of the largest table: 11 characters for a 32-bit word with its space, 21 for a 64-bit one. */
 #define ANSWER_MOST (64 + 11 * (SLOTS_MOST + COUNTERS_MOST) + 21 * ITEMS_MOST)
@@ -110,6 +110,13 @@ static int numbers_of(const Word *words, size_t count, size_t wanted, uint64_t *
     return ends_at(words, count, wanted);
 }
 
+/* So many numbers, and then an animal, a permission and the two minutes. */
+static int entry_of(const Word *words, size_t count, size_t before, uint64_t *numbers) {
+    for (size_t i = 0; i < before + 4; i++)
+        if (!next_number(words, count, i, i == before + 1 ? UINT32_MAX : UINT64_MAX, numbers + i)) return 0;
+    return ends_at(words, count, before + 4);
+}
+
 static int fresh(const Word *words, size_t count) {
     uint64_t n[3];
     if (!numbers_of(words, count, 3, n)) return 0;
@@ -150,9 +157,7 @@ static int ask(const Word *words, size_t count, int how) {
 /* Set, delete and evict: k is NULL for the whole call, else how many stores are made. */
 static int set(const Word *words, size_t count, const uint64_t *k) {
     uint64_t n[4];
-    for (size_t i = 0; i < 4; i++)
-        if (!next_number(words, count, i, i == 1 ? UINT32_MAX : UINT64_MAX, n + i)) return 0;
-    if (!ends_at(words, count, 4)) return 0;
+    if (!entry_of(words, count, 0, n)) return 0;
     BoughladderSetting s = k ? anchor_set_cut(TABLE, n[0], (uint32_t)n[1], n[2], n[3], *k)
                              : anchor_set(TABLE, n[0], (uint32_t)n[1], n[2], n[3]);
     if (tell_refusal(s.refusal)) return 1;
@@ -186,6 +191,37 @@ static int write_call(const Word *words, size_t count, const uint64_t *k) {
     if (is(words[0], "delete")) return delete(words + 1, count - 1, k);
     if (is(words[0], "evict")) return evict(words + 1, count - 1, k);
     return misunderstood("unknown word");
+}
+
+static int plan(const Word *words, size_t count) {
+    uint64_t n[4];
+    if (!entry_of(words, count, 0, n)) return 0;
+    BoughladderPlan p = anchor_plan(TABLE, n[0], (uint32_t)n[1], n[2], n[3]);
+    if (tell_refusal(p.refusal)) return 1;
+    TELL("planned");
+    tell_next(p.place);
+    tell_next(p.slot);
+    for (size_t i = 0; i < p.count; i++) {
+        tell_next(p.moves[i].from);
+        tell_next(p.moves[i].tag);
+        tell_next(p.moves[i].to);
+    }
+    return 1;
+}
+
+static int move(const Word *words, size_t count) {
+    uint64_t n[7];
+    if (!entry_of(words, count, 3, n)) return 0;
+    BoughladderMove m = {n[0], n[1] > UINT32_MAX ? 0 : (uint32_t)n[1], n[2]}; /* no entry has a tag so large, and none has 0 */
+    if (!tell_refusal(anchor_step_move(TABLE, m, n[3], (uint32_t)n[4], n[5], n[6]))) TELL("moved");
+    return 1;
+}
+
+static int enter(const Word *words, size_t count) {
+    uint64_t n[6];
+    if (!entry_of(words, count, 2, n)) return 0;
+    if (!tell_refusal(anchor_step_enter(TABLE, n[0], n[1], n[2], (uint32_t)n[3], n[4], n[5]))) TELL("entered");
+    return 1;
 }
 
 static int list(const Word *words, size_t count) {
@@ -308,6 +344,9 @@ static int answer(const Word *words, size_t count, const char *end) {
     if (is(words[0], "hand")) return set_hand(words + 1, count - 1);
     if (is(words[0], "plain")) return ask(words + 1, count - 1, PLAIN);
     if (is(words[0], "judge")) return judge(words + 1, count - 1);
+    if (is(words[0], "plan")) return plan(words + 1, count - 1);
+    if (is(words[0], "move")) return move(words + 1, count - 1);
+    if (is(words[0], "enter")) return enter(words + 1, count - 1);
     if (is_run(words[0])) return load(words[0], end);
     return write_call(words, count, NULL);
 }

@@ -188,6 +188,139 @@ BoughladderSetting second_set(const BoughladderTable *t, uint64_t animal, uint32
     return s;
 }
 
+/* The item words of the first place with the number, or NULL: four places a turn, then those that are left. */
+static inline const uint64_t *first_with(const uint64_t *item, size_t places, uint64_t animal) {
+    for (; places >= 4; places -= 4, item += 16) {
+        if (item[0] == animal) return item;
+        if (item[4] == animal) return item + 4;
+        if (item[8] == animal) return item + 8;
+        if (item[12] == animal) return item + 12;
+    }
+    for (; places > 0; places--, item += 4)
+        if (item[0] == animal) return item;
+    return NULL;
+}
+
+/* Set's first turns: 1, 2, 3, 8; or 0, and her homes. */
+static inline uint32_t refused_first(const BoughladderTable *t, uint64_t animal, uint64_t issued, uint64_t now, Homes *home) {
+    if (!good_shape(t)) return 1;
+    if (animal == 0) return 2;
+    if (now < issued || now == NO_MINUTE) return 3;
+    *home = homes_of(t, animal);
+    return t->counters[home->counter] & 1 ? 8 : 0;
+}
+
+/* One test for free and damaged: a full bucket of good words, as most are, needs no other. */
+static inline uint32_t no_entry(uint32_t word, uint32_t m) {
+    return (uint32_t)(word - 65536u >= 255u * 65536u) | (uint32_t)((word & 65535) >= m);
+}
+
+static inline uint32_t all_entries(const uint32_t *four, uint32_t m) {
+    return !(no_entry(four[0], m) | no_entry(four[1], m) | no_entry(four[2], m) | no_entry(four[3], m));
+}
+
+static inline uint32_t free_slots(const uint32_t *four) {
+    return (uint32_t)(four[0] == 0) | (uint32_t)(four[1] == 0) << 1 | (uint32_t)(four[2] == 0) << 2 | (uint32_t)(four[3] == 0) << 3;
+}
+
+/* Most find room at home, so the eight home words are judged at once, the first bucket's in the lower bits. Else the four
+   buckets that one visit leads to are judged together; visit v's come from slot (v - 2) % 4 of visit (v - 2) / 4. */
+BoughladderPlan second_plan(const BoughladderTable *t, uint64_t animal, uint32_t permission, uint64_t issued, uint64_t now) {
+    BoughladderPlan plan = {0}; /* cleared while the hash waits for its products: later it takes longer */
+    Homes home;
+    (void)permission;
+    plan.refusal = refused_first(t, animal, issued, now, &home);
+    if (plan.refusal) return plan;
+    uint32_t n = (uint32_t)(t->slots_length / 4), m = (uint32_t)(t->items_length / 4);
+    const uint32_t *slots = t->slots;
+    size_t slot;
+    int64_t hit = hit_of(t, home, animal, &slot);
+    if (hit == DAMAGED) { plan.refusal = 4; return plan; }
+    if (hit != ABSENT) { plan.refusal = 12; return plan; }
+    const uint64_t *vacant = first_with(t->items, m, 0);
+    if (vacant == NULL) { plan.refusal = 5; return plan; }
+
+    uint32_t free = free_slots(slots + 4 * home.first) | free_slots(slots + 4 * home.other) << 4;
+    if (free) {
+        uint32_t i = (uint32_t)__builtin_ctz(free);
+        plan.slot = 4 * (i < 4 ? home.first : home.other) + i % 4;
+        plan.place = (size_t)(vacant - t->items) / 4;
+        return plan;
+    }
+    uint16_t visited[VISITS] /* not set to zero */;
+    uint32_t parent, full = 15;
+    visited[0] = (uint16_t)home.first;
+    visited[1] = (uint16_t)home.other;
+    for (parent = 0; parent < PARENTS; parent++) {
+        const uint32_t *words = slots + 4 * visited[parent];
+        uint16_t *led = visited + 2 + 4 * parent;
+        full = 0;
+        for (uint32_t i = 0; i < 4; i++) {
+            led[i] = (uint16_t)(visited[parent] ^ spread(words[i] >> 16, n));
+            full |= all_entries(slots + 4 * led[i], m) << i;
+        }
+        if (full != 15) break;
+    }
+    if (full == 15) { plan.refusal = 6; return plan; }
+    uint32_t v = 2 + 4 * parent + (uint32_t)__builtin_ctz(~full);
+    const uint32_t *four = slots + 4 * visited[v];
+    if (damaged(four[0], m) | damaged(four[1], m) | damaged(four[2], m) | damaged(four[3], m)) { plan.refusal = 4; return plan; }
+    slot = 4u * visited[v] + (uint32_t)__builtin_ctz(free_slots(four));
+    for (; v > 1; v = (v - 2) / 4) { /* from the far end back */
+        size_t from = 4u * visited[(v - 2) / 4] + (v - 2) % 4;
+        plan.moves[plan.count++] = (BoughladderMove){from, slots[from] >> 16, slot};
+        slot = from;
+    }
+    plan.place = (size_t)(vacant - t->items) / 4;
+    plan.slot = slot;
+    return plan;
+}
+
+/* Who has the planned tag, and that is one, is neither free nor damaged but by its place. Its other bucket differs from its
+   own in the bits of the spread. The animal may be held: only her counter and her home slots are looked at. */
+uint32_t second_step_move(const BoughladderTable *t, BoughladderMove move, uint64_t animal, uint32_t permission,
+                          uint64_t issued, uint64_t now) {
+    Homes home;
+    (void)permission;
+    uint32_t refusal = refused_first(t, animal, issued, now, &home), bad = 0;
+    if (refusal) return refusal;
+    uint32_t n = (uint32_t)(t->slots_length / 4), m = (uint32_t)(t->items_length / 4);
+    for (int i = 0; i < 4; i++) bad |= damaged(t->slots[4 * home.first + i], m) | damaged(t->slots[4 * home.other + i], m);
+    if (bad) return 4;
+    if (move.from >= 4 * n || move.to >= 4 * n || move.tag - 1 >= 255) return 12;
+    uint32_t *from = t->slots + move.from, *to = t->slots + move.to, word = *from;
+    uint32_t bucket = (uint32_t)move.from / 4, other = (uint32_t)move.to / 4;
+    if (word >> 16 != move.tag || (word & 65535) >= m || *to != 0 || (bucket ^ other) != spread(move.tag, n)) return 12;
+    uint32_t *counter = t->counters + smaller(bucket, other) % (uint32_t)t->counters_length;
+    ++*counter;
+    *to = word;
+    *from = 0;
+    ++*counter;
+    return 0;
+}
+
+uint32_t second_step_enter(const BoughladderTable *t, size_t place, size_t slot, uint64_t animal, uint32_t permission,
+                           uint64_t issued, uint64_t now) {
+    Homes home;
+    uint32_t refusal = refused_first(t, animal, issued, now, &home);
+    if (refusal) return refusal;
+    size_t hers;
+    int64_t hit = hit_of(t, home, animal, &hers);
+    if (hit == DAMAGED) return 4;
+    size_t away = slot / 4 ^ home.first; /* no bits in the first bucket, those of the spread in the other: both in the run */
+    if (hit != ABSENT || place >= t->items_length / 4 || (away != 0 && away != (home.first ^ home.other))) return 12;
+    uint64_t *item = t->items + 4 * place;
+    if (item[0] != 0 || t->slots[slot] != 0) return 12;
+    t->counters[home.counter]++;
+    item[0] = animal;
+    item[1] = permission;
+    item[2] = issued;
+    item[3] = 1;
+    t->slots[slot] = home.tag * 65536 + (uint32_t)place;
+    t->counters[home.counter]++;
+    return 0;
+}
+
 uint32_t second_delete(const BoughladderTable *t, uint64_t animal) {
     if (!good_shape(t)) return 1;
     if (animal == 0) return 2;
@@ -203,19 +336,6 @@ uint32_t second_delete(const BoughladderTable *t, uint64_t animal) {
     item[0] = item[1] = item[2] = item[3] = 0;
     t->counters[home.counter]++;
     return 0;
-}
-
-/* The item words of the first place with the number, or NULL: four places a turn, then those that are left. */
-static inline const uint64_t *first_with(const uint64_t *item, size_t places, uint64_t animal) {
-    for (; places >= 4; places -= 4, item += 16) {
-        if (item[0] == animal) return item;
-        if (item[4] == animal) return item + 4;
-        if (item[8] == animal) return item + 8;
-        if (item[12] == animal) return item + 12;
-    }
-    for (; places > 0; places--, item += 4)
-        if (item[0] == animal) return item;
-    return NULL;
 }
 
 BoughladderReading second_plain_read(const BoughladderTable *t, uint64_t animal, uint64_t limit, uint64_t now) {

@@ -21,6 +21,8 @@
 enum { OURS, ANCHOR, SECOND, TABLES };
 static Table tables[TABLES], *const ours = &tables[OURS], before;
 static uint64_t absent[M];
+static BoughladderMove there[M], back[M];
+static size_t places[M], slots[M]; /* where the absent animals go in one step */
 static int rounds = 150;
 
 /* How each table is passed to its calls, and its items to the plain read. */
@@ -80,6 +82,28 @@ typedef double Work(Table *t, size_t from);
             t->sum += s.refusal + s.visits + s.moves + who##_delete(who##_TABLE, absent[i]);                \
         }                                                                                                   \
         return (now_ns() - start) / BATCH;                                                                  \
+    }                                                                                                       \
+    WORK(who##_plans)                                                                                       \
+        double start = now_ns();                                                                            \
+        for (size_t i = from; i < from + BATCH; i++) {                                                      \
+            BoughladderPlan p = who##_plan(who##_TABLE, absent[i], (uint32_t)i, NOW, NOW);                  \
+            t->sum += p.refusal + p.count + p.place + p.slot + p.moves[0].from + p.moves[0].tag + p.moves[0].to;\
+        }                                                                                                   \
+        return (now_ns() - start) / BATCH;                                                                  \
+    }                                                                                                       \
+    WORK(who##_steps) /* each move there and back, so that the table stays */                               \
+        double start = now_ns();                                                                            \
+        for (size_t i = from; i < from + BATCH; i++) {                                                      \
+            t->sum += who##_step_move(who##_TABLE, there[i], absent[i], (uint32_t)i, NOW, NOW);             \
+            t->sum += who##_step_move(who##_TABLE, back[i], absent[i], (uint32_t)i, NOW, NOW);              \
+        }                                                                                                   \
+        return (now_ns() - start) / (2 * BATCH);                                                            \
+    }                                                                                                       \
+    WORK(who##_enters)                                                                                      \
+        double start = now_ns();                                                                            \
+        for (size_t i = from; i < from + BATCH; i++)                                                        \
+            t->sum += who##_step_enter(who##_TABLE, places[i], slots[i], absent[i], (uint32_t)i, NOW, NOW); \
+        return (now_ns() - start) / BATCH;                                                                  \
     }
 #define MORE_WORKS(who)                                                                                     \
     WORK(who##_evicts)                                                                                      \
@@ -115,6 +139,9 @@ ALL(updates)
 ALL(new)
 ALL(gone)
 ALL(pairs)
+ALL(plans)
+ALL(steps)
+ALL(enters)
 TWO(evicts)
 TWO(lists)
 
@@ -135,6 +162,31 @@ static void fill(unsigned load) {
     }
     for (int k = 1; k < TABLES; k++) tables[k] = *ours;
     choose_questions();
+}
+
+/* Behind fill: entries with a free slot in their other bucket; and absent animals with room at home, each with the place and
+   the slot that a plan gives her when the others of her batch are in. */
+static void choose_steps(void) {
+    Table *t = ours;
+    for (size_t i = 0; i < M;) {
+        size_t from = any() % (4 * N), to;
+        uint32_t tag = ours->slots[from] >> 16;
+        to = 4 * (from / 4 ^ ((tag * 1540483477u % N) | 1));
+        while (to % 4 < 3 && ours->slots[to] != 0) to++;
+        if (tag == 0 || ours->slots[to] != 0) continue;
+        there[i] = (BoughladderMove){from, tag, to};
+        back[i++] = (BoughladderMove){to, tag, from};
+    }
+    for (size_t i = 0; i < M;) {
+        uint64_t animal = any();
+        BoughladderPlan plan = boughladder_plan(TABLE, animal, 1, NOW, NOW);
+        if (plan.refusal != 0 || plan.count != 0) continue;
+        boughladder_step_enter(TABLE, plan.place, plan.slot, animal, 1, NOW, NOW);
+        absent[i] = animal, places[i] = plan.place, slots[i] = plan.slot;
+        if (++i % BATCH == 0)
+            for (size_t k = i - BATCH; k < i; k++) boughladder_delete(TABLE, absent[k]);
+    }
+    for (int k = 1; k < TABLES; k++) tables[k] = *ours;
 }
 
 typedef struct {
@@ -235,6 +287,29 @@ int main(int argc, char **argv) {
         for (int k = 1; k < TABLES; k++) tables[k] = *ours;
         time_all("set and delete, place 0 vacant", loads[i], pairs);
     }
+    static const unsigned full[] = {50, 90, 95};
+    for (int i = 0; i < 3; i++) {
+        fill(full[i]);
+        time_all("plan of an absent animal", full[i], plans);
+    }
+    for (int i = 0; i < 3; i++) { /* the search remains */
+        fill(full[i]);
+        Table *t = ours;
+        boughladder_delete(TABLE, ours->items[0]);
+        for (int k = 1; k < TABLES; k++) tables[k] = *ours;
+        time_all("plan, place 0 vacant", full[i], plans);
+    }
+    fill(90);
+    choose_steps();
+    time_all("step_move, there and back", 90, steps);
+    Best come = none, go = none;
+    fill(90);
+    choose_steps();
+    for (int round = 0; round < 4 * rounds; round++) {
+        each(enters, round, &come);
+        each(gone, round, &go);
+    }
+    row("step_enter", 90, enters, come);
     fill(90);
     time_all("update", 90, updates);
     fill(90);
