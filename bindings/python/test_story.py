@@ -771,11 +771,11 @@ class Story(unittest.TestCase):
         self.assertEqual(table.serve(17, 720, 130), Reading(ABSENT))
         # 12 leaves place 4, and that is the lowest vacant one; 17 gets the planned one. What the step says is stored.
         table.delete(12)
-        self.assertIsNone(table.step_enter(plan.place, plan.slot, 17, 3, issued=120, now=131))
+        self.assertIsNone(table.step_enter(plan.place, plan.slot, 17, 2 ** 32 - 1, issued=120, now=131))
         self.assertEqual(answers(), before)
         self.assertEqual(table.find(17), 12)
-        self.assertEqual(table.serve(17, 720, 131), fresh(3, 709))
-        self.assertEqual(table.items[48:52], [17, 3, 120, 1])
+        self.assertEqual(table.serve(17, 720, 131), fresh(2 ** 32 - 1, 709))
+        self.assertEqual(table.items[48:52], [17, 2 ** 32 - 1, 120, 1])
 
     def test_steps_leave_what_a_set_leaves(self):
         one = 358, 687, 1012, 1334, 248, 734, 913, 1710

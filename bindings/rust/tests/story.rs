@@ -977,11 +977,11 @@ fn a_set_in_steps() {
     assert_eq!(table.serve(17, 720, 130), Ok(Reading::Absent));
     // 12 leaves place 4, and that is the lowest vacant one; 17 gets the planned one. What the step says is stored.
     assert_eq!(table.delete(12), Ok(()));
-    assert_eq!(table.step_enter(said.place, said.slot, 17, 3, 120, 131), Ok(()));
+    assert_eq!(table.step_enter(said.place, said.slot, 17, u32::MAX, 120, 131), Ok(()));
     assert_eq!((answers(&table), judged(&table)), (before, None));
     assert_eq!(table.find(17), Ok(Some(12)));
-    assert_eq!(table.serve(17, 720, 131), fresh(3, 709));
-    assert_eq!(table.items[48..52], [17, 3, 120, 1]);
+    assert_eq!(table.serve(17, 720, 131), fresh(u32::MAX, 709));
+    assert_eq!(table.items[48..52], [17, u64::from(u32::MAX), 120, 1]);
 }
 
 #[test]
