@@ -414,7 +414,7 @@ class Table:
 
         It is made exactly if both slots lie in the run, the source word is neither free nor damaged and has the planned
         tag, the destination word is 0, and the destination lies in the entry's other bucket; also where the animal is
-        held by now. No read changes by it. Else it is refusal 12.
+        held by now. Else it is refusal 12. On a table that finished calls have made no read changes by it.
         """
         if not isinstance(move, Move):
             raise TypeError('step_move wants a Move: one of a plan')
@@ -425,7 +425,8 @@ class Table:
         """The final store: the animal into that place and slot, with the stamp issued. Refusals as step_move.
 
         It is made exactly if the animal is absent, place and slot lie in their runs, the place is vacant, the slot is
-        free and lies in one of the animal's two buckets. Only her own read changes by it. Else it is refusal 12.
+        free and lies in one of the animal's two buckets. Else it is refusal 12. On a table that finished calls have
+        made only her own read changes by it.
         """
         self._call('step_enter', _number(place, 64, 'place'), _number(slot, 64, 'slot'),
                    *_given(animal, permission, issued, now))
