@@ -537,8 +537,8 @@ impl Table<'_> {
 
     /// One whole move of a plan, in 4 stores. It is made exactly if both slots lie in the run, the source word is
     /// neither free nor damaged and has the planned tag, the destination word is 0, and the destination lies in the
-    /// entry's other bucket; also where the animal is held by now. Else it is [`Refusal::NotAsPlanned`]. On a table that
-    /// finished calls have made no read changes by it.
+    /// entry's other bucket; also where the animal is held by now. Else it is [`Refusal::NotAsPlanned`]. On a table
+    /// that finished calls have made no read changes by it.
     ///
     /// The animal and what follows are set's. So are the refusals that come first, in this order:
     /// [`Refusal::BadShape`], [`Refusal::NoAnimal`], [`Refusal::BadTime`], [`Refusal::Busy`], [`Refusal::Damaged`].
@@ -556,8 +556,8 @@ impl Table<'_> {
 
     /// The final store, in 7 stores: the animal into that place and slot, with the stamp issued. It is made exactly if
     /// the animal is absent, place and slot lie in their runs, the place is vacant, the slot is free and lies in one of
-    /// the animal's two buckets. Else it is [`Refusal::NotAsPlanned`]. On a table that finished calls have made only her
-    /// own read changes by it.
+    /// the animal's two buckets. Else it is [`Refusal::NotAsPlanned`]. On a table that finished calls have made only
+    /// her own read changes by it.
     ///
     /// The refusals that come first are those of [`Table::step_move`].
     pub fn step_enter(
