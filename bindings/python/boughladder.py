@@ -18,13 +18,24 @@ where it is later, now becomes the stamp, which is wrong. A list that was issued
 nothing else stops a late list: after a delete or an eviction it is stored. What came with minutes that ran ahead makes
 every true list late until the animal is deleted.
 
+A set in steps, with any calls between:
+
+    plan = table.plan(4711, 1, issued, now)
+    for move in plan.moves:
+        table.step_move(move, 4711, 1, issued, now)
+    table.step_enter(plan.place, plan.slot, 4711, 1, issued, now)
+
+plan says what a set of an absent animal would do now. Without calls between, the steps leave what the set leaves, word
+for word. Nothing is reserved, and nothing ties a step to its plan: each is judged by the words that it finds. Where it
+can't be made any more it is refusal 12, and no word changes: plan again, or set. An update has no steps: it is a set.
+
 Standing permissions are retired: no set makes one. A table from before 4.0.0 may hold some, stamped RETIRED_MARK. Such
 an entry is old with LEAST_LEFT at every minute and under every limit, so it opens no gate, and serve leaves it alone.
 No list is late for it: the next set replaces it. The list has it as it is stored.
 
-One call at a time: no call may run while another one writes (fresh, set, delete, evict, serve and the cut forms) on the
-same table. Each Table has a lock and each of its calls takes it, so threads may share it. Two Tables over the same
-arrays have two locks: make one. The functions plain_read and judge, for an auditor, take no lock.
+One call at a time: no call may run while another one writes (fresh, set, delete, evict, the cut forms, the two steps
+and serve) on the same table. Each Table has a lock and each of its calls takes it, so threads may share it. Two Tables
+over the same arrays have two locks: make one. The functions plain_read and judge, for an auditor, take no lock.
 
 The library is libboughladder.so, which bindings/python/run links: beside this file, in target/python of the repository,
 or where the environment variable BOUGHLADDER_SO says.
@@ -34,12 +45,13 @@ import os
 import pathlib
 import threading
 from dataclasses import dataclass
-from typing import NamedTuple, Optional
+from typing import NamedTuple, Optional, Tuple
 
 ABSENT, FRESH, OLD, AHEAD = 'absent', 'fresh', 'old', 'ahead'
 HOLDING, MILKING, GRAZING = 'holding', 'milking', 'grazing'
 
 RECORD_BYTES = 20
+MOST_MOVES = 4               # of a set, and so of a plan
 LARGEST_LIMIT = 10080        # minutes: a week
 LEAST_LEFT = -2 ** 62        # minutes; what would be less is told as this
 NO_MINUTE = 2 ** 64 - 1      # as now: refusal 3
@@ -59,6 +71,7 @@ REFUSALS = {
     9: 'the buffer is too short for the list',
     10: 'the hand found no victim',
     11: 'late: a permission that was issued later is held',
+    12: "the animal to plan for is held, or a step can't be made as planned",
 }
 
 CONDITIONS = {
@@ -96,6 +109,18 @@ class Reading:
 class Stored(NamedTuple):
     visits: int  # buckets looked at for room; 0 where the animal was held already
     moves: int   # entries moved to make room, at most 4
+
+
+class Move(NamedTuple):
+    from_: int  # the slot that it empties
+    tag: int    # the tag of the entry there
+    to: int     # the slot that the entry goes to
+
+
+class Plan(NamedTuple):
+    moves: Tuple[Move, ...]  # in the order of making, at most 4
+    place: int               # for the final store
+    slot: int
 
 
 class Evicted(NamedTuple):
@@ -162,6 +187,15 @@ class _Setting(ctypes.Structure):
     _fields_ = [('refusal', ctypes.c_uint32), ('visits', ctypes.c_size_t), ('moves', ctypes.c_size_t)]
 
 
+class _Move(ctypes.Structure):
+    _fields_ = [('from_', ctypes.c_size_t), ('tag', ctypes.c_uint32), ('to', ctypes.c_size_t)]
+
+
+class _Plan(ctypes.Structure):
+    _fields_ = [('refusal', ctypes.c_uint32), ('count', ctypes.c_size_t), ('place', ctypes.c_size_t),
+                ('slot', ctypes.c_size_t), ('moves', _Move * MOST_MOVES)]
+
+
 class _Evicting(ctypes.Structure):
     _fields_ = [('refusal', ctypes.c_uint32), ('victim', ctypes.c_uint64), ('looked', ctypes.c_size_t),
                 ('hand', ctypes.c_size_t)]
@@ -187,6 +221,9 @@ _CALLS = {
     'find': (_Finding, _LENT + [_u64]),
     'set': (_Setting, _LENT + [_u64, _u32, _u64, _u64]),
     'set_cut': (_Setting, _LENT + [_u64, _u32, _u64, _u64, _u64]),
+    'plan': (_Plan, _LENT + [_u64, _u32, _u64, _u64]),
+    'step_move': (_u32, _LENT + [_Move, _u64, _u32, _u64, _u64]),
+    'step_enter': (_u32, _LENT + [_size, _size, _u64, _u32, _u64, _u64]),
     'delete': (_u32, _LENT + [_u64]),
     'delete_cut': (_u32, _LENT + [_u64, _u64]),
     'evict': (_Evicting, _LENT + [_size]),
@@ -236,6 +273,11 @@ def _answered(name, *arguments):
 
 def _asked(animal, limit, now):
     return _number(animal, 64, 'animal'), _number(limit, 64, 'limit'), _number(now, 64, 'now')
+
+
+def _given(animal, permission, issued, now):
+    return (_number(animal, 64, 'animal'), _number(permission, 32, 'permission'), _number(issued, 64, 'issued'),
+            _number(now, 64, 'now'))
 
 
 def _told(r):
@@ -345,9 +387,7 @@ class Table:
         return r.place if r.kind != 0 else None
 
     def _set(self, name, animal, permission, issued, now, *k):
-        r = self._call(name, _number(animal, 64, 'animal'), _number(permission, 32, 'permission'),
-                       _number(issued, 64, 'issued'), _number(now, 64, 'now'),
-                       *(_number(stores, 64, 'k') for stores in k))
+        r = self._call(name, *_given(animal, permission, issued, now), *(_number(stores, 64, 'k') for stores in k))
         return Stored(r.visits, r.moves)
 
     def set(self, animal, permission, issued, now):
@@ -360,6 +400,36 @@ class Table:
     def set_cut(self, animal, permission, issued, now, k):
         """Set, of which only the first k stores are made, as a loss of power leaves it."""
         return self._set('set_cut', animal, permission, issued, now, k)
+
+    def plan(self, animal, permission, issued, now):
+        """What a set of an absent animal would do now: its moves, its place, its slot. It changes nothing.
+
+        A held animal is refusal 12, never 11; all other refusals are set's.
+        """
+        r = self._call('plan', *_given(animal, permission, issued, now))
+        return Plan(tuple(Move(m.from_, m.tag, m.to) for m in r.moves[:r.count]), r.place, r.slot)
+
+    def step_move(self, move, animal, permission, issued, now):
+        """One whole move of a plan. The animal and what follows are set's; refusals 1, 2, 3, 8 and 4 are too.
+
+        It is made exactly if both slots lie in the run, the source word is neither free nor damaged and has the planned
+        tag, the destination word is 0, and the destination lies in the entry's other bucket; also where the animal is
+        held by now. Else it is refusal 12. On a table that finished calls have made no read changes by it.
+        """
+        if not isinstance(move, Move):
+            raise TypeError('step_move wants a Move: one of a plan')
+        move = _Move(_number(move.from_, 64, 'from_'), _number(move.tag, 32, 'tag'), _number(move.to, 64, 'to'))
+        self._call('step_move', move, *_given(animal, permission, issued, now))
+
+    def step_enter(self, place, slot, animal, permission, issued, now):
+        """The final store: the animal into that place and slot, with the stamp issued. Refusals as step_move.
+
+        It is made exactly if the animal is absent, place and slot lie in their runs, the place is vacant, the slot is
+        free and lies in one of the animal's two buckets. Else it is refusal 12. On a table that finished calls have
+        made only her own read changes by it.
+        """
+        self._call('step_enter', _number(place, 64, 'place'), _number(slot, 64, 'slot'),
+                   *_given(animal, permission, issued, now))
 
     def delete(self, animal):
         """Takes the animal's entry away."""

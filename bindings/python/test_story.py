@@ -1,4 +1,4 @@
-"""The order's examples, samples/network-drop.calls with its answers, and the cabinet of samples/retired.calls.
+"""The order's examples, samples/network-drop.calls with its answers, samples/retired.calls' cabinet, and sets in steps.
 
 bindings/rust/tests/story.rs tells the same.
 """
@@ -8,8 +8,8 @@ import unittest
 
 import boughladder
 from boughladder import (ABSENT, AHEAD, ALL_STORES, CONDITIONS, FRESH, GRAZING, HOLDING, LARGEST_LIMIT, LEAST_LEFT,
-                         MILKING, NO_MINUTE, OLD, REFUSALS, RETIRED_MARK, Evicted, Judgement, Reading, Record, Refusal,
-                         Stored, Table, judge, lane, plain_read, records)
+                         MILKING, MOST_MOVES, NO_MINUTE, OLD, REFUSALS, RETIRED_MARK, Evicted, Judgement, Move, Plan,
+                         Reading, Record, Refusal, Stored, Table, judge, lane, plain_read, records)
 
 
 def lent(s, c, i):
@@ -46,6 +46,20 @@ def cabinet():
     table.slots[:] = 0, 14155778, 0, 0, 11862017, 0, 0, 0, 2818048, 0, 0, 0, 0, 0, 0, 0
     table.counters[:] = 8, 2
     table.items[:] = 4713, 2, 100, 1, 901, 2, RETIRED_MARK, 1, 900, 2, RETIRED_MARK, 0, 0, 0, 0, 0
+    return table
+
+
+# N = 4: buckets 0, 1 and 3 are full, and 2 is empty. 17, of buckets 0 and 1, needs two moves.
+CROWD = 1, 5, 9, 13, 12, 16, 20, 24, 2, 6, 10, 14
+# N = 16: 625 needs four.
+LARGE_CROWD = 58, 186, 353, 512, 31, 63, 159, 239, 368, 69, 286, 414, 464, 100, 180, 371, 593, 119, 215, 344
+
+
+def crowded(s, c, i, animals):
+    """A table that holds them."""
+    table = made(s, c, i)
+    for animal in animals:
+        table.set(animal, 1, 100, 100)
     return table
 
 
@@ -699,6 +713,258 @@ class Story(unittest.TestCase):
             self.assertRaises(TypeError, lambda: judge(slots=table.slots, counters=wrong, items=table.items))
         self.assertRaises(TypeError, lambda: judge(slots=table.slots, counters=table.counters, items=table.slots))
 
+    def planned(self, table, animal):
+        """Plan, which changes no word: what it says, or the number of the refusal."""
+        before = words(table)
+        said = self.said(table.plan, animal, 2, 100, 130)
+        self.assertEqual(words(table), before)
+        return said
+
+    def counted(self, table, counters):
+        """These counters, with 2 more in the one that has changed."""
+        n = next(n for n in range(len(counters)) if table.counters[n] != counters[n])
+        counters[n] += 2
+
+    def moved(self, table, from_, tag, to):
+        """A move for 17. Where it is made, two slots and one counter change, by 2; where not, nothing does."""
+        then = words(table)
+        said = self.said(table.step_move, Move(from_, tag, to), 17, 2, 100, 130)
+        if said is None:
+            then[0][to], then[0][from_] = then[0][from_], 0
+            self.counted(table, then[1])
+        self.assertEqual(words(table), then)
+        return said
+
+    def entered(self, table, place, slot, animal):
+        """The final store. Where it is made, one place, a slot and a counter change; where not, nothing does."""
+        then = words(table)
+        said = self.said(table.step_enter, place, slot, animal, 2, 100, 130)
+        if said is None:
+            then[0][slot] = table.slots[slot] // 65536 * 65536 + place
+            self.counted(table, then[1])
+            then[2][4 * place:4 * place + 4] = animal, 2, 100, 1
+        self.assertEqual(words(table), then)
+        return said
+
+    def test_a_set_in_steps(self):
+        table = crowded(16, 4, 56, CROWD)
+        plan = self.planned(table, 17)
+        # 6, with tag 225, goes from slot 13 to 8, then 1, with tag 62, from 0 to 13.
+        self.assertEqual(plan, Plan((Move(13, 225, 8), Move(0, 62, 13)), 12, 0))
+        self.assertEqual((plan.moves[1].from_, plan.moves[1].tag, plan.moves[1].to), (0, 62, 13))
+        self.assertEqual((plan.place, plan.slot), (12, 0))
+
+        # Between the steps 6 is served, 20 leaves and 3 comes. A move changes no answer, nor does the final store.
+        def answers():
+            self.assertIsNone(self.judged(table))
+            return [table.read(animal, 720, 130) for animal in (1, 5, 6, 9, 10, 14)]
+
+        before = answers()
+        self.assertEqual(table.serve(6, 720, 130), fresh(1, 690))
+        self.assertIsNone(table.step_move(plan.moves[0], 17, 2, 100, 130))
+        self.assertEqual(answers(), before)
+        self.assertEqual(table.serve(6, 720, 130), fresh(1, 690))
+        table.delete(20)
+        self.assertEqual(table.set(3, 1, 100, 130), Stored(1, 0))
+        self.assertIsNone(table.step_move(plan.moves[1], 17, 2, 100, 130))
+        self.assertEqual(answers(), before)
+        self.assertEqual(table.serve(17, 720, 130), Reading(ABSENT))
+        # 12 leaves place 4, and that is the lowest vacant one; 17 gets the planned one. What the step says is stored.
+        table.delete(12)
+        self.assertIsNone(table.step_enter(plan.place, plan.slot, 17, 2 ** 32 - 1, issued=120, now=131))
+        self.assertEqual(answers(), before)
+        self.assertEqual(table.find(17), 12)
+        self.assertEqual(table.serve(17, 720, 131), fresh(2 ** 32 - 1, 709))
+        self.assertEqual(table.items[48:52], [17, 2 ** 32 - 1, 120, 1])
+
+    def test_steps_leave_what_a_set_leaves(self):
+        one = 358, 687, 1012, 1334, 248, 734, 913, 1710
+        for n, v, herd, animal, moves in ((4, 4, CROWD[:3], 17, 0), (4, 4, one, 5, 1), (4, 1, CROWD, 17, 2),
+                                          (16, 8, LARGE_CROWD[:19], 625, 3), (16, 8, LARGE_CROWD, 625, 4)):
+            with self.subTest(moves=moves):
+                table, other = crowded(4 * n, v, 88, herd), crowded(4 * n, v, 88, herd)
+                plan = self.planned(table, animal)
+                self.assertEqual((len(plan.moves), plan.place), (moves, len(herd)))
+                self.assertEqual(other.set(animal, 7, 110, 130).moves, moves)
+                for move in plan.moves:
+                    table.step_move(move, animal, 7, 110, 130)
+                    self.assertIsNone(self.judged(table))
+                table.step_enter(plan.place, plan.slot, animal, 7, 110, 130)
+                self.assertEqual(words(table), words(other))
+        # The four moves, by number.
+        plan = self.planned(crowded(64, 8, 88, LARGE_CROWD), 625)
+        self.assertEqual(plan, Plan((Move(9, 173, 12), Move(6, 247, 9), Move(3, 189, 6), Move(63, 51, 3)), 20, 63))
+        self.assertEqual(len(plan.moves), MOST_MOVES)
+
+    def test_a_stale_step(self):
+        table = crowded(16, 4, 52, CROWD)
+        old = self.planned(table, 17)
+        # 6 leaves, so nobody is there to be moved; a new plan wants one move less.
+        table.delete(6)
+        self.assertEqual(self.moved(table, 13, 225, 8), 12)
+        new = self.planned(table, 17)
+        self.assertEqual(new, Plan((Move(0, 62, 13),), 9, 0))
+        self.assertIsNone(self.moved(table, 0, 62, 13))
+        # Made once, it can't be made again.
+        self.assertEqual(self.moved(table, 0, 62, 13), 12)
+        # Another one takes the planned place: she is entered into the next.
+        table.set(6, 1, 100, 130)
+        self.assertEqual(self.entered(table, new.place, new.slot, 17), 12)
+        self.assertIsNone(self.entered(table, old.place, old.slot, 17))
+        # And only once. A move is made where she is held, too; but who is held can't be planned for, only set.
+        self.assertEqual(self.entered(table, new.place, new.slot, 17), 12)
+        self.assertEqual(self.planned(table, 17), 12)
+        table.delete(5)
+        self.assertIsNone(self.moved(table, 13, 62, 1))
+        self.assertEqual(table.set(17, 1, 120, 130), Stored(0, 0))
+        self.assertIsNone(self.judged(table))
+
+        # A set takes the slot that was the last to be freed.
+        table = crowded(16, 4, 56, CROWD)
+        old = self.planned(table, 17)
+        for move in old.moves:
+            self.assertIsNone(self.moved(table, *move))
+        self.assertEqual(table.set(21, 1, 100, 130), Stored(1, 0))
+        self.assertEqual(self.entered(table, 13, old.slot, 17), 12)
+        new = self.planned(table, 17)
+        for move in new.moves:
+            self.assertIsNone(self.moved(table, *move))
+        self.assertIsNone(self.entered(table, new.place, new.slot, 17))
+        self.assertEqual((table.find(21), table.find(17)), (12, 13))
+        self.assertIsNone(self.judged(table))
+
+    def test_a_move_not_as_planned(self):
+        table = crowded(16, 4, 56, CROWD)
+        # Slots that are not there. Some would be if they were cut to 32 bits.
+        for beyond in (16, 2 ** 8, 2 ** 32, 2 ** 63, 2 ** 64 - 16):
+            for from_, to in ((beyond, 8), (beyond + 13, 8), (13, beyond), (13, beyond + 8)):
+                self.assertEqual(self.moved(table, from_, 225, to), 12)
+        # Another tag. Most have bucket 2 as well; some would be 225 if they were cut to 8 or 16 bits.
+        for tag in (0, 1, 224, 226, 227, 225 + 256, 225 + 65536, 225 << 16, 2 ** 32 - 1):
+            self.assertEqual(self.moved(table, 13, tag, 8), 12)
+        # The source is free: its tag would be 0. Slot 14 is free too, and in the other bucket of each of these tags.
+        table.delete(10)
+        for tag in (0, 225, 62):
+            self.assertEqual(self.moved(table, 9, tag, 14), 12)
+        # The source is damaged: tag 0, tag 256, a place that is not there.
+        word = table.slots[13]
+        for damaged, tag in ((9, 0), (256 * 65536 + 9, 256), (225 * 65536 + 14, 225), (2 ** 32 - 1, 65535)):
+            table.slots[13] = damaged
+            self.assertEqual(self.moved(table, 13, tag, 8), 12)
+            self.assertEqual(self.moved(table, 13, 225, 8), 12)
+        table.slots[13] = word
+        # The destination is taken, by whatever word.
+        for taken in (word, 65536, 7, 2 ** 32 - 1):
+            table.slots[8] = taken
+            self.assertEqual(self.moved(table, 13, 225, 8), 12)
+        table.slots[8] = 0
+        # The destination is in another bucket, or in its own, or is the source.
+        table.delete(9)
+        table.delete(16)
+        for to in (2, 5, 14, 13):
+            self.assertEqual(self.moved(table, 13, 225, to), 12)
+        # Any slot of the other bucket will do, there and back.
+        for to in range(8, 12):
+            for way in ((13, to), (to, 14), (14, to), (to, 13)):
+                self.assertIsNone(self.moved(table, way[0], 225, way[1]))
+        self.assertIsNone(self.judged(table))
+
+    def test_a_final_store_not_as_planned(self):
+        table = crowded(16, 4, 56, CROWD)
+        self.assertIsNone(self.moved(table, 13, 225, 8))
+        self.assertIsNone(self.moved(table, 0, 62, 13))
+        # 1 is held, and slot 0 is in her bucket.
+        self.assertEqual(self.entered(table, 12, 0, 1), 12)
+        # A place that is not there; some would be if they were cut, or their first word's number were. Or it is taken.
+        for place in (14, 12 + 2 ** 16, 12 + 2 ** 32, 12 + 2 ** 62, 12 + 2 ** 63, 2 ** 64 - 1, 0, 9, 11):
+            self.assertEqual(self.entered(table, place, 0, 17), 12)
+        # A slot that is not there, is taken, or is in another bucket.
+        for slot in (16, 2 ** 32, 2 ** 63, 2 ** 64 - 1, 1, 4, 7, 8, 9, 11, 13):
+            self.assertEqual(self.entered(table, 12, slot, 17), 12)
+        self.assertIsNone(self.judged(table))
+        # Any vacant place will do, whatever is left in its other words; and any free slot of both buckets.
+        table.delete(16)
+        for place, slot in ((12, 0), (13, 0), (5, 0), (12, 5), (13, 5), (5, 5)):
+            table.items[4 * place + 1:4 * place + 4] = 2 ** 64 - 1, 7, 7
+            self.assertIsNone(self.entered(table, place, slot, 17))
+            self.assertEqual(table.read(17, 720, 130), fresh(2, 690))
+            self.assertIsNone(self.judged(table))
+            table.delete(17)
+
+    def test_plan_refuses(self):
+        table = crowded(16, 4, 48, CROWD)
+        # Who is held: by the same minute, by a later list, by a late one, and where she is retired. 12 comes before 5.
+        for stamp in (100, 0, 130, RETIRED_MARK):
+            table.items[2] = stamp
+            self.assertEqual(self.planned(table, 1), 12)
+        self.assertEqual(self.planned(table, 17), 5)
+        table = crowded(8, 1, 36, range(1, 9))
+        self.assertEqual(self.planned(table, 9), 6)
+        self.unchanged(6, table, 9, 100, 130)
+        # A damaged word beside the free slot that the search finds.
+        crowd = crowded(16, 4, 56, CROWD)
+        crowd.slots[11] = 7
+        self.assertEqual(self.planned(crowd, 17), 4)
+        self.unchanged(4, crowd, 17, 100, 130)
+        # With a free slot in a home bucket no move is wanted.
+        table.delete(4)
+        plan = self.planned(table, 9)
+        self.assertEqual((plan.moves, plan.place), ((), 3))
+
+    def test_steps_refuse_in_turn(self):
+        # One place and two buckets: every slot is a home, and the table is full.
+        table = crowded(8, 1, 4, (7,))
+        free = next(n for n in range(8) if table.slots[n] == 0)
+        top = 2 ** 64 - 1
+
+        def says(table, animal, issued, now):
+            """What plan, a move and the final store say, each with numbers that are wrong."""
+            before = words(table)
+            said = (self.said(table.plan, animal, 2, issued, now),
+                    self.said(table.step_move, Move(top, 2 ** 32 - 1, top), animal, 2, issued, now),
+                    self.said(table.step_enter, top, top, animal, 2, issued, now))
+            self.assertEqual(words(table), before)
+            return said
+
+        # All reasons at once, and one after the other is taken away.
+        for animal in (7, 8):
+            table.slots[free], table.counters[0] = 65537, 3
+            short = Table.over(slots=table.slots, counters=table.counters, items=(ctypes.c_uint64 * 3)())
+            self.assertEqual(says(short, 0, 131, 130), (1, 1, 1))
+            self.assertEqual(says(table, 0, 131, 130), (2, 2, 2))
+            self.assertEqual(says(table, animal, 131, 130), (3, 3, 3))
+            self.assertEqual(says(table, animal, 130, NO_MINUTE), (3, 3, 3))
+            self.assertEqual(says(table, animal, 130, 130), (8, 8, 8))
+            table.counters[0] = 4
+            self.assertEqual(says(table, animal, 130, 130), (4, 4, 4))
+            table.slots[free] = 0
+            self.assertEqual(says(table, animal, 130, 130), (12 if animal == 7 else 5, 12, 12))
+
+    def test_steps_out_of_range(self):
+        table = crowded(16, 4, 56, CROWD)
+        before, good = words(table), (17, 2, 100, 130)
+        # Cut to its bits each of them would be good.
+        for number in (2 ** 64, -2 ** 64):
+            for move in (Move(13 + number, 225, 8), Move(13, 225, 8 + number), Move(13, 225 + number // 2 ** 32, 8)):
+                self.assertRaises(ValueError, table.step_move, move, *good)
+        for wrong in (13.0, '13', None):
+            for move in (Move(wrong, 225, 8), Move(13, wrong, 8), Move(13, 225, wrong)):
+                self.assertRaises(ValueError, table.step_move, move, *good)
+        for numbers in ((2 ** 64 + 17, 2, 100, 130), (17, 2 ** 32 + 2, 100, 130), (17, 2, -1, 130),
+                        (17, 2, 100, 2 ** 64), (17, 2, 100, 1.5)):
+            self.assertRaises(ValueError, table.plan, *numbers)
+            self.assertRaises(ValueError, table.step_move, Move(13, 225, 8), *numbers)
+            self.assertRaises(ValueError, table.step_enter, 12, 0, *numbers)
+        # A move is a Move: no plan, no three numbers.
+        for wrong in (table.plan(*good), (13, 225, 8), [13, 225, 8], 13, None):
+            self.assertRaises(TypeError, table.step_move, wrong, *good)
+        self.assertEqual(words(table), before)
+        self.assertIsNone(self.moved(table, 13, 225, 8))
+        self.assertIsNone(self.moved(table, 0, 62, 13))
+        for place, slot in ((2 ** 64 + 12, 0), (12, 2 ** 64), (-1, 0), (12, -16), (12.0, 0), (12, None)):
+            self.assertRaises(ValueError, table.step_enter, place, slot, *good)
+        self.assertIsNone(self.entered(table, 12, 0, 17))
+
     def test_lanes(self):
         self.assertEqual([lane(fresh(permission, 0)) for permission in range(5)],
                          [HOLDING, MILKING, GRAZING, MILKING, HOLDING])
@@ -706,10 +972,13 @@ class Story(unittest.TestCase):
             self.assertEqual(lane(held), HOLDING)
 
     def test_refusals(self):
-        self.assertEqual(list(REFUSALS), list(range(1, 12)))
+        self.assertEqual(list(REFUSALS), list(range(1, 13)))
+        self.assertEqual(len(set(REFUSALS.values())), 12)
         self.assertEqual(str(Refusal(8)), 'refusal 8: busy: a write was cut off')
         self.assertEqual(str(Refusal(11)), 'refusal 11: late: a permission that was issued later is held')
-        self.assertEqual(str(Refusal(12)), 'refusal 12: no refusal number')
+        self.assertEqual(str(Refusal(12)),
+                         "refusal 12: the animal to plan for is held, or a step can't be made as planned")
+        self.assertEqual(str(Refusal(13)), 'refusal 13: no refusal number')
 
     def test_numbers_out_of_range(self):
         table = made(8, 1, 4)
@@ -723,8 +992,10 @@ class Story(unittest.TestCase):
     def test_one_call_at_a_time(self):
         table = made(8, 1, 4)
         for call, numbers in ((table.set, (1, 1, 100, 100)), (table.read, (1, 720, 100)), (table.list, ()),
-                              (table.plain_read, (1, 720, 100)), (table.judge, ())):
-            task = threading.Thread(target=call, args=numbers)
+                              (table.plain_read, (1, 720, 100)), (table.judge, ()), (table.plan, (2, 1, 100, 100)),
+                              (table.step_move, (Move(0, 1, 4), 2, 1, 100, 100)),
+                              (table.step_enter, (0, 0, 2, 1, 100, 100))):
+            task = threading.Thread(target=self.said, args=(call, *numbers))
             with table._lock:
                 task.start()
                 task.join(0.1)

@@ -2,8 +2,8 @@
  * Checks include/boughladder.h and libboughladder.a against each other: the layout of each struct, where the hash puts
  * an animal, each call with known answers (the order's examples), what is left of the limit, late lists and the order
  * of set's refusals, entries that are retired, plain read and where it answers as read, judge and each of its
- * conditions, the sizes and limits, the calls over a table beside those over the runs, and garbage memory of any length
- * in blocks of their own, so that valgrind sees a read or a write outside.
+ * conditions, plans and the steps of a set, the sizes and limits, the calls over a table beside those over the runs,
+ * and garbage memory of any length in blocks of their own, so that valgrind sees a read or a write outside.
  * `check ROUNDS` prints one line, `N checks passed`, or the checks that failed.
  */
 #include <stdio.h>
@@ -36,12 +36,17 @@ static void *block(size_t bytes) {
     return p;
 }
 
-static Table lend(size_t s, size_t c, size_t i) {
+static Table blocks(size_t s, size_t c, size_t i) {
     Table t;
     t.s = s, t.c = c, t.i = i;
     t.slots = (uint32_t *)block(4 * s);
     t.counters = (uint32_t *)block(4 * c);
     t.items = (uint64_t *)block(8 * i);
+    return t;
+}
+
+static Table lend(size_t s, size_t c, size_t i) {
+    Table t = blocks(s, c, i);
     memset(t.slots, 0, 4 * s), memset(t.counters, 0, 4 * c), memset(t.items, 0, 8 * i);
     return t;
 }
@@ -49,6 +54,12 @@ static Table lend(size_t s, size_t c, size_t i) {
 static void copy(Table *to, const Table *t) {
     memcpy(to->slots, t->slots, 4 * t->s), memcpy(to->counters, t->counters, 4 * t->c);
     memcpy(to->items, t->items, 8 * t->i);
+}
+
+static Table copied(const Table *t) {
+    Table to = blocks(t->s, t->c, t->i);
+    copy(&to, t);
+    return to;
 }
 
 static int same(const Table *a, const Table *b) {
@@ -100,10 +111,8 @@ static int judges(BoughladderJudgement r, uint32_t condition, size_t at) {
 /* Judge in both its forms, over the runs and over a table that is const: they say the same, and no word is changed. */
 static BoughladderJudgement judged(const Table *t) {
     const BoughladderTable table = {t->slots, t->s, t->counters, t->c, t->items, t->i};
-    Table before = lend(t->s, t->c, t->i);
-    BoughladderJudgement r;
-    copy(&before, t);
-    r = boughladder_judge(LENT(*t));
+    Table before = copied(t);
+    BoughladderJudgement r = boughladder_judge(LENT(*t));
     CHECK(judges(boughladder_table_judge(&table), r.condition, r.at));
     CHECK(same(t, &before) && r.condition <= 8 && (r.condition != 0 || r.at == 0));
     give_back(&before);
@@ -184,6 +193,12 @@ static void layout(void) {
     CHECK(offsetof(BoughladderFinding, kind) == 4 && offsetof(BoughladderFinding, place) == 8);
     CHECK(sizeof(BoughladderSetting) == 24);
     CHECK(offsetof(BoughladderSetting, visits) == 8 && offsetof(BoughladderSetting, moves) == 16);
+    CHECK(sizeof(BoughladderMove) == 24);
+    CHECK(offsetof(BoughladderMove, from) == 0 && offsetof(BoughladderMove, tag) == 8);
+    CHECK(offsetof(BoughladderMove, to) == 16);
+    CHECK(sizeof(BoughladderPlan) == 128 && BOUGHLADDER_MOST_MOVES == 4);
+    CHECK(offsetof(BoughladderPlan, count) == 8 && offsetof(BoughladderPlan, place) == 16);
+    CHECK(offsetof(BoughladderPlan, slot) == 24 && offsetof(BoughladderPlan, moves) == 32);
     CHECK(sizeof(BoughladderEvicting) == 32);
     CHECK(offsetof(BoughladderEvicting, victim) == 8 && offsetof(BoughladderEvicting, looked) == 16);
     CHECK(offsetof(BoughladderEvicting, hand) == 24);
@@ -237,12 +252,28 @@ static void hashes(void) {
 
 static uint32_t tag_of(uint64_t animal) { return hash_of(animal) >> 24 == 0 ? 1 : hash_of(animal) >> 24; }
 
+/* The other bucket of an entry with that tag in that bucket. */
+static size_t other_bucket(const Table *t, size_t bucket, uint32_t tag) {
+    size_t spread = (size_t)tag * 1540483477u % (t->s / 4);
+    return bucket ^ (spread % 2 == 0 ? spread + 1 : spread);
+}
+
 /* Whether that word in that slot points to an animal that has this tag, and this bucket as one of its two. */
 static int belongs(const Table *t, size_t slot, uint32_t word) {
-    uint64_t animal = t->items[4 * (word % 65536)], tag = tag_of(animal);
-    uint64_t first = hash_of(animal) % (t->s / 4), spread = tag * 1540483477u % (t->s / 4);
-    spread += spread % 2 == 0;
-    return animal != 0 && word / 65536 == tag && (slot / 4 == first || slot / 4 == (first ^ spread));
+    uint64_t animal = t->items[4 * (word % 65536)];
+    size_t first = hash_of(animal) % (t->s / 4), other = other_bucket(t, first, tag_of(animal));
+    return animal != 0 && word / 65536 == tag_of(animal) && (slot / 4 == first || slot / 4 == other);
+}
+
+/* The first run whose length is wrong, 0 to 2, or 3. */
+static size_t wrong_run(const Table *t) {
+    if (t->s < 8 || t->s > 8192 || (t->s & (t->s - 1)) != 0) return 0;
+    if (t->c < 1 || t->c > 1024) return 1;
+    return t->i % 4 != 0 || t->i < 4 || t->i > 16384 ? 2 : 3;
+}
+
+static int is_damaged(const Table *t, uint32_t word) {
+    return word != 0 && (word / 65536 == 0 || word / 65536 > 255 || word % 65536 >= t->i / 4);
 }
 
 static BoughladderJudgement broken(uint32_t condition, size_t at) {
@@ -254,13 +285,9 @@ static BoughladderJudgement broken(uint32_t condition, size_t at) {
 static BoughladderJudgement verdict(const Table *t) {
     static unsigned pointing[4096];
     size_t places = t->i / 4, k, other;
-    if (t->s < 8 || t->s > 8192 || (t->s & (t->s - 1)) != 0) return broken(1, 0);
-    if (t->c < 1 || t->c > 1024) return broken(1, 1);
-    if (t->i % 4 != 0 || places < 1 || places > 4096) return broken(1, 2);
-    for (k = 0; k < t->s; k++) {
-        uint32_t tag = t->slots[k] / 65536;
-        if (t->slots[k] != 0 && (tag == 0 || tag > 255 || t->slots[k] % 65536 >= places)) return broken(2, k);
-    }
+    if (wrong_run(t) < 3) return broken(1, wrong_run(t));
+    for (k = 0; k < t->s; k++)
+        if (is_damaged(t, t->slots[k])) return broken(2, k);
     for (k = 0; k < t->c; k++)
         if (t->counters[k] % 2 != 0) return broken(3, k);
     memset(pointing, 0, sizeof pointing);
@@ -280,6 +307,180 @@ static BoughladderJudgement verdict(const Table *t) {
         if (t->items[4 * k] == 0 && (t->items[4 * k + 1] | t->items[4 * k + 2] | t->items[4 * k + 3]) != 0)
             return broken(8, k);
     return broken(0, 0);
+}
+
+/* An animal in a table of good lengths: its tag, its counter, its eight home slots in order. */
+typedef struct {
+    uint32_t tag;
+    size_t counter, slots[8];
+} Homes;
+
+static Homes homes_of(const Table *t, uint64_t animal) {
+    Homes h;
+    size_t first = hash_of(animal) % (t->s / 4), other;
+    h.tag = tag_of(animal), other = other_bucket(t, first, h.tag);
+    h.counter = (first < other ? first : other) % t->c;
+    for (size_t k = 0; k < 8; k++) h.slots[k] = 4 * (k < 4 ? first : other) + k % 4;
+    return h;
+}
+
+static int is_held(const Table *t, uint64_t animal, const Homes *h) {
+    for (int k = 0; k < 8; k++) {
+        uint32_t word = t->slots[h->slots[k]];
+        if (word / 65536 == h->tag && t->items[4 * (word % 65536)] == animal) return 1;
+    }
+    return 0;
+}
+
+/* Refusals 1, 2, 3, 8 and 4, as in set of that animal. */
+static uint32_t owed_first(const Table *t, uint64_t animal, uint64_t issued, uint64_t now) {
+    Homes h;
+    if (wrong_run(t) < 3) return 1;
+    if (animal == 0) return 2;
+    if (now == UINT64_MAX || issued > now) return 3;
+    h = homes_of(t, animal);
+    if (t->counters[h.counter] % 2 != 0) return 8;
+    for (int k = 0; k < 8; k++)
+        if (is_damaged(t, t->slots[h.slots[k]])) return 4;
+    return 0;
+}
+
+/* What plan must say by the order's words, on any memory. In the visit list, counted from 0, slot k of visit v leads to
+   visit 2 + 4 * v + k: levels of 2, 8, 32, 128 and 512. */
+static BoughladderPlan owed_plan(const Table *t, uint64_t animal, uint64_t issued, uint64_t now) {
+    static size_t bucket[682];
+    BoughladderPlan none, plan;
+    Homes h;
+    size_t v = 0, k;
+    memset(&none, 0, sizeof none);
+    plan = none;
+    none.refusal = owed_first(t, animal, issued, now);
+    if (none.refusal != 0) return none;
+    h = homes_of(t, animal);
+    none.refusal = 12;
+    if (is_held(t, animal, &h)) return none;
+    none.refusal = 5;
+    while (plan.place < t->i / 4 && t->items[4 * plan.place] != 0) plan.place++;
+    if (plan.place == t->i / 4) return none;
+    bucket[0] = h.slots[0] / 4, bucket[1] = h.slots[4] / 4;
+    for (;; v++) {
+        const uint32_t *words;
+        none.refusal = 6;
+        if (v == 682) return none;
+        words = t->slots + 4 * bucket[v];
+        none.refusal = 4;
+        for (k = 0; k < 4; k++)
+            if (is_damaged(t, words[k])) return none;
+        for (k = 0; k < 4 && words[k] != 0; k++)
+            if (v < 170) bucket[2 + 4 * v + k] = other_bucket(t, bucket[v], words[k] / 65536);
+        if (k < 4) break;
+    }
+    /* From the far end back, each into the slot just freed. */
+    plan.slot = 4 * bucket[v] + k;
+    for (; v >= 2; v = (v - 2) / 4) {
+        BoughladderMove *move = plan.moves + plan.count++;
+        move->to = plan.slot;
+        move->from = plan.slot = 4 * bucket[(v - 2) / 4] + (v - 2) % 4;
+        move->tag = t->slots[move->from] / 65536;
+    }
+    return plan;
+}
+
+/* A move by the order's words: makes it, or says why not. */
+static uint32_t owed_move(Table *t, BoughladderMove move, uint64_t animal, uint64_t issued, uint64_t now) {
+    uint32_t refusal = owed_first(t, animal, issued, now), word;
+    size_t bucket, other;
+    if (refusal != 0) return refusal;
+    if (move.from >= t->s || move.to >= t->s) return 12;
+    word = t->slots[move.from];
+    if (word == 0 || is_damaged(t, word) || word / 65536 != move.tag || t->slots[move.to] != 0) return 12;
+    bucket = move.from / 4, other = other_bucket(t, bucket, move.tag);
+    if (move.to / 4 != other) return 12;
+    t->slots[move.to] = word, t->slots[move.from] = 0;
+    t->counters[(bucket < other ? bucket : other) % t->c] += 2;
+    return 0;
+}
+
+/* The final store, likewise. */
+static uint32_t owed_enter(Table *t, size_t place, size_t slot, uint64_t animal, uint32_t permission, uint64_t issued,
+                           uint64_t now) {
+    uint32_t refusal = owed_first(t, animal, issued, now);
+    Homes h;
+    if (refusal != 0) return refusal;
+    h = homes_of(t, animal);
+    if (is_held(t, animal, &h) || place >= t->i / 4 || slot >= t->s) return 12;
+    if (t->items[4 * place] != 0 || t->slots[slot] != 0) return 12;
+    if (slot / 4 != h.slots[0] / 4 && slot / 4 != h.slots[4] / 4) return 12;
+    t->items[4 * place] = animal, t->items[4 * place + 1] = permission;
+    t->items[4 * place + 2] = issued, t->items[4 * place + 3] = 1;
+    t->slots[slot] = h.tag * 65536 + (uint32_t)place;
+    t->counters[h.counter] += 2;
+    return 0;
+}
+
+/* A move, with garbage between its fields. */
+static BoughladderMove one_move(size_t from, uint32_t tag, size_t to) {
+    BoughladderMove move;
+    memset(&move, 0xa5, sizeof move);
+    move.from = from, move.tag = tag, move.to = to;
+    return move;
+}
+
+static int moves_to(BoughladderMove move, size_t from, uint32_t tag, size_t to) {
+    return move.from == from && move.tag == tag && move.to == to;
+}
+
+static int plans_alike(const BoughladderPlan *a, const BoughladderPlan *b) {
+    int alike_so_far = a->refusal == b->refusal && a->count == b->count && a->place == b->place && a->slot == b->slot;
+    for (int k = 0; k < 4; k++)
+        alike_so_far = alike_so_far && moves_to(a->moves[k], b->moves[k].from, b->moves[k].tag, b->moves[k].to);
+    return alike_so_far;
+}
+
+/* Plan in both its forms, over the runs and over a table that is const: they say what they must, and change no word. */
+static BoughladderPlan planned(const Table *t, uint64_t animal, uint32_t permission, uint64_t issued, uint64_t now) {
+    const BoughladderTable table = {t->slots, t->s, t->counters, t->c, t->items, t->i};
+    Table before = copied(t);
+    BoughladderPlan must = owed_plan(t, animal, issued, now), plan;
+    plan = boughladder_table_plan(&table, animal, permission, issued, now);
+    CHECK(plans_alike(&plan, &must));
+    plan = boughladder_plan(LENT(*t), animal, permission, issued, now);
+    CHECK(plans_alike(&plan, &must) && same(t, &before));
+    give_back(&before);
+    return plan;
+}
+
+/* So many slots differ, one counter does, by 2, and of the items only words of that place. */
+static int only(const Table *t, const Table *before, size_t slots, size_t place) {
+    size_t other_slots = 0, counters = 0, k;
+    int by_2 = 1;
+    for (k = 0; k < t->s; k++) other_slots += t->slots[k] != before->slots[k];
+    for (k = 0; k < t->c; k++)
+        if (t->counters[k] != before->counters[k]) counters++, by_2 = t->counters[k] - before->counters[k] == 2;
+    for (k = 0; k < t->i; k++)
+        if (t->items[k] != before->items[k] && k / 4 != place) return 0;
+    return other_slots == slots && counters == 1 && by_2;
+}
+
+/* A move: it says and leaves what it must. Refused, it changes no word; made, two slots and a counter. */
+static uint32_t moved(Table *t, BoughladderMove move, uint64_t animal, uint64_t issued, uint64_t now) {
+    Table other = copied(t);
+    uint32_t refusal = boughladder_step_move(LENT(*t), move, animal, 9, issued, now);
+    if (refusal == 0) CHECK(only(t, &other, 2, t->i / 4));
+    CHECK(refusal == owed_move(&other, move, animal, issued, now) && same(t, &other));
+    give_back(&other);
+    return refusal;
+}
+
+/* The final store, likewise; made, it changes one slot, one place and a counter. */
+static uint32_t entered(Table *t, size_t place, size_t slot, uint64_t animal, uint32_t permission, uint64_t issued,
+                        uint64_t now) {
+    Table other = copied(t);
+    uint32_t refusal = boughladder_step_enter(LENT(*t), place, slot, animal, permission, issued, now);
+    if (refusal == 0) CHECK(only(t, &other, 1, place));
+    CHECK(refusal == owed_enter(&other, place, slot, animal, permission, issued, now) && same(t, &other));
+    give_back(&other);
+    return refusal;
 }
 
 /* Judge says so, and by the order it must. */
@@ -359,6 +560,9 @@ static void nothing_lent(void) {
         CHECK(finds(boughladder_table_find(lent[k], 1), BOUGHLADDER_BAD_SHAPE, 0, 0));
         CHECK(sets(boughladder_table_set(lent[k], 1, 1, 1, 1), BOUGHLADDER_BAD_SHAPE, 0, 0));
         CHECK(sets(boughladder_table_set_cut(lent[k], 1, 1, 1, 1, 1), BOUGHLADDER_BAD_SHAPE, 0, 0));
+        CHECK(boughladder_table_plan(lent[k], 1, 1, 1, 1).refusal == BOUGHLADDER_BAD_SHAPE);
+        CHECK(boughladder_table_step_move(lent[k], one_move(0, 1, 4), 1, 1, 1, 1) == BOUGHLADDER_BAD_SHAPE);
+        CHECK(boughladder_table_step_enter(lent[k], 0, 0, 1, 1, 1, 1) == BOUGHLADDER_BAD_SHAPE);
         CHECK(boughladder_table_delete(lent[k], 1) == BOUGHLADDER_BAD_SHAPE);
         CHECK(boughladder_table_delete_cut(lent[k], 1, 1) == BOUGHLADDER_BAD_SHAPE);
         CHECK(evicts(boughladder_table_evict(lent[k], 0), BOUGHLADDER_BAD_SHAPE, 0, 0, 0));
@@ -381,7 +585,7 @@ static void nothing_lent(void) {
 
 /* Only a fresh permission leads anywhere, and only by its bits. */
 static void lanes(void) {
-    for (unsigned refusal = 0; refusal <= 12; refusal++)
+    for (unsigned refusal = 0; refusal <= 13; refusal++)
         for (unsigned kind = 0; kind <= 9; kind++)
             for (uint32_t permission = 0; permission < 16; permission++) {
                 /* The other bits say nothing. */
@@ -396,12 +600,13 @@ static void lanes(void) {
 }
 
 static void texts(void) {
-    for (uint32_t a = 0; a <= 11; a++) {
-        CHECK(strcmp(boughladder_refusal_text(a), boughladder_refusal_text(12)) != 0);
+    for (uint32_t a = 0; a <= 12; a++) {
+        CHECK(strcmp(boughladder_refusal_text(a), boughladder_refusal_text(13)) != 0);
         for (uint32_t b = 0; b < a; b++) CHECK(strcmp(boughladder_refusal_text(a), boughladder_refusal_text(b)) != 0);
     }
     CHECK(strstr(boughladder_refusal_text(BOUGHLADDER_LATE), "issued later") != NULL);
-    CHECK(strcmp(boughladder_refusal_text(12), "no refusal number") == 0);
+    CHECK(strstr(boughladder_refusal_text(BOUGHLADDER_NOT_AS_PLANNED), "planned") != NULL);
+    CHECK(strcmp(boughladder_refusal_text(13), "no refusal number") == 0);
     CHECK(strcmp(boughladder_refusal_text(UINT32_MAX), "no refusal number") == 0);
     for (uint32_t a = 0; a <= 8; a++) {
         CHECK(strcmp(boughladder_condition_text(a), boughladder_condition_text(9)) != 0);
@@ -553,10 +758,8 @@ static void lefts(void) {
 
 /* Set and its cut form refuse alike, for every k, and change nothing. */
 static int refuses(Table *t, uint64_t animal, uint64_t issued, uint64_t now, uint32_t refusal) {
-    Table before = lend(t->s, t->c, t->i);
-    int holds;
-    copy(&before, t);
-    holds = sets(boughladder_set(LENT(*t), animal, 9, issued, now), refusal, 0, 0) && same(t, &before);
+    Table before = copied(t);
+    int holds = sets(boughladder_set(LENT(*t), animal, 9, issued, now), refusal, 0, 0) && same(t, &before);
     for (uint64_t k = 0; k <= 8; k++)
         holds = holds && sets(boughladder_set_cut(LENT(*t), animal, 9, issued, now, k), refusal, 0, 0) &&
                 same(t, &before);
@@ -622,8 +825,20 @@ static void issues(void) {
     give_back(&t);
 }
 
+/* Plan and the steps, these with numbers that are wrong, refuse in their turn. */
+static int steps_refuse(Table *t, uint64_t animal, uint64_t issued, uint64_t now, uint32_t plan, uint32_t step) {
+    return planned(t, animal, 9, issued, now).refusal == plan &&
+           moved(t, one_move(99, 99, 99), animal, issued, now) == step &&
+           entered(t, 99, 99, animal, 9, issued, now) == step;
+}
+
+static int all_refuse(Table *t, uint64_t animal, uint64_t issued, uint64_t now, uint32_t refusal) {
+    return refuses(t, animal, issued, now, refusal) && steps_refuse(t, animal, issued, now, refusal, refusal);
+}
+
 /* Set refuses in the order 1, 2, 3, 8, 4, 11, 5: all reasons at once, and one after the other is taken away. One place
-   and two buckets, so every slot is a home, and the table is full. Where 7 is retired, only her 11 does not come. */
+   and two buckets, so every slot is a home, and the table is full. Where 7 is retired, only her 11 does not come. Plan
+   and the steps have 12 for 11. */
 static void turns(int mark) {
     Table t = lend(8, 1, 4);
     size_t slot = 0;
@@ -633,16 +848,17 @@ static void turns(int mark) {
     while (t.slots[slot] != 0) slot++;
     t.slots[slot] = 65537, t.counters[0] = 3;
     t.i = 3;
-    CHECK(refuses(&t, 0, 99, 98, BOUGHLADDER_BAD_SHAPE));
+    CHECK(all_refuse(&t, 0, 99, 98, BOUGHLADDER_BAD_SHAPE));
     t.i = 4;
-    CHECK(refuses(&t, 0, 99, 98, BOUGHLADDER_NO_ANIMAL));
+    CHECK(all_refuse(&t, 0, 99, 98, BOUGHLADDER_NO_ANIMAL));
     for (uint64_t animal = 7; animal <= 8; animal++) {
         t.slots[slot] = 65537, t.counters[0] = 3;
-        CHECK(refuses(&t, animal, 99, 98, BOUGHLADDER_BAD_TIME));
-        CHECK(refuses(&t, animal, 99, 99, BOUGHLADDER_BUSY));
+        CHECK(all_refuse(&t, animal, 99, 98, BOUGHLADDER_BAD_TIME));
+        CHECK(all_refuse(&t, animal, 99, 99, BOUGHLADDER_BUSY));
         t.counters[0] = 4;
-        CHECK(refuses(&t, animal, 99, 99, BOUGHLADDER_DAMAGED));
+        CHECK(all_refuse(&t, animal, 99, 99, BOUGHLADDER_DAMAGED));
         t.slots[slot] = 0;
+        CHECK(steps_refuse(&t, animal, 99, 99, animal == 7 ? 12 : 5, BOUGHLADDER_NOT_AS_PLANNED));
         /* Who is held is late, and no place is wanted for her; who is not held has none. */
         if (mark && animal == 7) {
             CHECK(sets(boughladder_set(LENT(t), 7, 9, 99, 99), 0, 0, 0) && t.items[2] == 99);
@@ -1027,10 +1243,15 @@ static void wrong_lengths(void) {
         for (int b = 0; b < 6; b++)
             for (int d = 0; d < 9; d++) {
                 size_t at = a > 0 ? 0 : b > 0 ? 1 : d > 0 ? 2 : 0;
-                BoughladderJudgement r =
-                    boughladder_judge(s[a] == 0 ? NULL : t.slots, s[a], c[b] == 0 ? NULL : t.counters, c[b],
-                                      i[d] == 0 ? NULL : t.items, i[d]);
-                CHECK(judges(r, a + b + d == 0 ? BOUGHLADDER_SOUND : BOUGHLADDER_WRONG_LENGTH, at));
+                uint32_t shape_only = a + b + d == 0 ? BOUGHLADDER_OK : BOUGHLADDER_BAD_SHAPE;
+                BoughladderTable lent = {s[a] == 0 ? NULL : t.slots, s[a], c[b] == 0 ? NULL : t.counters, c[b],
+                                         i[d] == 0 ? NULL : t.items, i[d]};
+                BoughladderJudgement r = boughladder_table_judge(&lent);
+                CHECK(judges(r, shape_only == 0 ? BOUGHLADDER_SOUND : BOUGHLADDER_WRONG_LENGTH, at));
+                CHECK(boughladder_table_plan(&lent, 7, 5, 100, 100).refusal == shape_only);
+                if (shape_only == 0) continue;
+                CHECK(boughladder_table_step_move(&lent, one_move(0, 1, 4), 7, 5, 100, 100) == shape_only);
+                CHECK(boughladder_table_step_enter(&lent, 0, 0, 7, 5, 100, 100) == shape_only);
             }
     give_back(&t);
 }
@@ -1397,6 +1618,276 @@ static void cuts_judged(void) {
     give_back(&t);
 }
 
+/* N = 4: buckets 0, 1 and 3 are full, and 2 is empty. 17, of buckets 0 and 1, needs two moves. */
+static Table crowd(size_t counters, size_t places) {
+    static const uint64_t small[12] = {1, 5, 9, 13, 12, 16, 20, 24, 2, 6, 10, 14};
+    Table t = lend(16, counters, 4 * places);
+    CHECK(boughladder_fresh(LENT(t)) == 0);
+    for (uint32_t k = 0; k < 12; k++) CHECK(boughladder_set(LENT(t), small[k], k, 100, 100).refusal == 0);
+    return t;
+}
+
+/* A plan of so many moves, and its steps without a call between: they leave what the set leaves. After each of them the
+   table is sound. */
+static BoughladderPlan carried_out(const Table *before, uint64_t animal, size_t count) {
+    Table t = copied(before), whole = copied(before);
+    BoughladderPlan plan = planned(before, animal, 7, 110, 130);
+    BoughladderSetting set = boughladder_set(LENT(whole), animal, 7, 110, 130);
+    CHECK(plan.refusal == 0 && plan.count == count && set.refusal == 0 && set.moves == count);
+    for (size_t k = 0; k < plan.count; k++)
+        CHECK(moved(&t, plan.moves[k], animal, 110, 130) == 0 && told(&t, BOUGHLADDER_SOUND, 0));
+    CHECK(entered(&t, plan.place, plan.slot, animal, 7, 110, 130) == 0 && told(&t, BOUGHLADDER_SOUND, 0));
+    CHECK(same(&t, &whole));
+    give_back(&t), give_back(&whole);
+    return plan;
+}
+
+/* Plans by number: none, one, two and four moves; and what can't be planned. */
+static void plans(void) {
+    static const uint64_t herd[8] = {358, 687, 1012, 1334, 248, 734, 913, 1710};
+    static const uint64_t large[20] = {58, 186, 353, 512, 31,  63,  159, 239, 368, 69,
+                                       286, 414, 464, 100, 180, 371, 593, 119, 215, 344};
+    static const uint64_t stamps[4] = {100, 0, 130, UINT64_MAX};
+    Table t = lend(16, 4, 36);
+    BoughladderPlan plan;
+    CHECK(boughladder_fresh(LENT(t)) == 0);
+    plan = carried_out(&t, 358, 0);
+    CHECK(plan.place == 0 && plan.slot == 0);
+    for (uint32_t k = 0; k < 8; k++) CHECK(boughladder_set(LENT(t), herd[k], k, 100, 100).refusal == 0);
+    plan = carried_out(&t, 5, 1);
+    CHECK(moves_to(plan.moves[0], 2, 2, 12) && plan.place == 8 && plan.slot == 2);
+    /* The lowest vacant place; and of a bucket with free slots the lowest. */
+    CHECK(boughladder_delete(LENT(t), 734) == 0 && boughladder_delete(LENT(t), 913) == 0);
+    plan = carried_out(&t, 5, 0);
+    CHECK(plan.place == 5 && plan.slot == 5);
+    /* A number whose low half is 0 is a number. */
+    t.items[4 * 5] = (uint64_t)1 << 32;
+    CHECK(planned(&t, 5, 7, 110, 130).place == 6);
+    give_back(&t);
+
+    t = crowd(4, 13);
+    plan = carried_out(&t, 17, 2);
+    CHECK(moves_to(plan.moves[0], 13, 225, 8) && moves_to(plan.moves[1], 0, 62, 13));
+    CHECK(plan.place == 12 && plan.slot == 0);
+    /* A damaged word beside the free slot that the search finds. */
+    t.slots[11] = 7;
+    CHECK(planned(&t, 17, 7, 110, 130).refusal == BOUGHLADDER_DAMAGED);
+    t.slots[11] = 0;
+    /* Who is held: in the same minute, by a later list, by a late one, and where she is retired. 12 comes before 5. */
+    for (int full = 0; full < 2; full++)
+        for (int k = 0; k < 4; k++) {
+            t.items[2] = stamps[k], t.items[4 * 12] = full ? 99 : 0;
+            CHECK(planned(&t, 1, 7, 110, 110).refusal == BOUGHLADDER_NOT_AS_PLANNED);
+            CHECK(planned(&t, 17, 7, 110, 110).refusal == (full ? BOUGHLADDER_NO_PLACE : BOUGHLADDER_OK));
+        }
+    give_back(&t);
+
+    t = lend(64, 8, 88);
+    CHECK(boughladder_fresh(LENT(t)) == 0);
+    for (uint32_t k = 0; k < 20; k++) CHECK(boughladder_set(LENT(t), large[k], k, 100, 100).refusal == 0);
+    plan = carried_out(&t, 625, 4);
+    CHECK(moves_to(plan.moves[0], 9, 173, 12) && moves_to(plan.moves[1], 6, 247, 9));
+    CHECK(moves_to(plan.moves[2], 3, 189, 6) && moves_to(plan.moves[3], 63, 51, 3));
+    CHECK(plan.place == 20 && plan.slot == 63);
+    CHECK(boughladder_set(LENT(t), 625, 1, 100, 100).refusal == 0);
+    CHECK(planned(&t, 721, 7, 110, 130).refusal == BOUGHLADDER_NO_ROOM);
+    give_back(&t);
+
+    /* The largest table: many tags to their other buckets, and the last place. */
+    t = lend(8192, 1024, 16384);
+    CHECK(boughladder_fresh(LENT(t)) == 0);
+    for (size_t k = 0; k < 12; k++) {
+        uint64_t animal = (k + 1) * 0x123456789u;
+        size_t from, other;
+        CHECK(boughladder_set(LENT(t), animal, 5, 100, 100).refusal == 0);
+        from = slot_of(&t, k), other = other_bucket(&t, from / 4, tag_of(animal));
+        CHECK(moved(&t, one_move(from, tag_of(animal), 4 * other + 3), 17, 110, 130) == 0 && slot_of(&t, k) != from);
+        CHECK(reads(boughladder_read(LENT(t), animal, 720, 820), 0, BOUGHLADDER_FRESH, 5, 0));
+    }
+    plan = carried_out(&t, 17, 0);
+    CHECK(entered(&t, 4095, plan.slot + 3, 17, 7, 110, 130) == 0 && is_sound(&t));
+    give_back(&t);
+}
+
+/* Constants, where a store ends the program: the calls that change nothing may be lent them, and a move the items. */
+static void read_only(void) {
+    static const uint32_t slots[16] = {65536, 65537, 131074, 65539, 65540, 65541, 65542, 65543,
+                                       0,     0,     0,      0,     0,     0,     0,     0};
+    static const uint32_t counters[4] = {16, 0, 0, 0};
+    static const uint64_t items[36] = {358, 0, 100, 1, 687, 1, 100, 1, 1012, 2, 100, 1, 1334, 3, 100, 1, 248,  4,
+                                       100, 1, 734, 5, 100, 1, 913, 6, 100,  1, 1710, 7, 100, 1, 0,   0, 0,    0};
+    uint8_t list[BOUGHLADDER_LIST_BYTES(8)];
+    uint32_t own_slots[16], own_counters[4];
+    BoughladderPlan plan = boughladder_plan(slots, 16, counters, 4, items, 36, 5, 9, 100, 100);
+    CHECK(plan.refusal == 0 && plan.count == 1 && plan.place == 8 && plan.slot == 2);
+    CHECK(moves_to(plan.moves[0], 2, 2, 12));
+    CHECK(boughladder_plan(slots, 16, counters, 4, items, 36, 358, 9, 100, 100).refusal == BOUGHLADDER_NOT_AS_PLANNED);
+    CHECK(boughladder_read(slots, 16, counters, 4, items, 36, 1012, 720, 100).permission == 2);
+    CHECK(boughladder_plain_read(items, 36, 1012, 720, 100).permission == 2);
+    CHECK(finds(boughladder_find(slots, 16, counters, 4, items, 36, 1012), 0, BOUGHLADDER_AT_PLACE, 2));
+    CHECK(lists(boughladder_list(slots, 16, counters, 4, items, 36, list, sizeof list), 0, 8));
+    CHECK(judges(boughladder_judge(slots, 16, counters, 4, items, 36), BOUGHLADDER_SOUND, 0));
+    memcpy(own_slots, slots, sizeof slots), memcpy(own_counters, counters, sizeof counters);
+    CHECK(boughladder_step_move(own_slots, 16, own_counters, 4, items, 36, plan.moves[0], 5, 9, 100, 100) == 0);
+    CHECK(own_slots[12] == 131074 && own_slots[2] == 0);
+}
+
+/* The crowd with a free slot in each bucket, 2, 5, 8, 9 and 14, and three damaged words where 17 does not look. Places
+   2, 5, 10, 12 and 13 are vacant; the number at the last, 14, has a low half of 0. */
+static Table thinned(void) {
+    Table t = crowd(4, 15);
+    CHECK(boughladder_delete(LENT(t), 9) == 0 && boughladder_delete(LENT(t), 16) == 0);
+    CHECK(boughladder_delete(LENT(t), 10) == 0);
+    t.slots[10] = 9, t.slots[11] = 256 * 65536 + 9, t.slots[15] = 225 * 65536 + 15;
+    t.items[4 * 14] = (uint64_t)1 << 32;
+    return t;
+}
+
+/* What a step of 17 says, a move or, without one, the final store: with every earlier reason to refuse, and as one
+   after the other is taken away. */
+static int in_turn(const Table *before, const BoughladderMove *move, size_t place, size_t slot, uint32_t refusal) {
+    static const uint32_t turns_before_12[5] = {1, 2, 3, 8, 4};
+    Table t = copied(before);
+    int holds = 1;
+    for (int first = 0; first <= 5; first++) {
+        uint32_t must = first < 5 ? turns_before_12[first] : refusal;
+        uint64_t animal = first <= 1 ? 0 : 17, issued = first <= 2 ? 131 : 110;
+        copy(&t, before);
+        t.i = before->i - (first == 0), t.counters[0] += first <= 3;
+        if (first <= 4) t.slots[7] = 65535;
+        holds = holds && must == (move != NULL ? moved(&t, *move, animal, issued, 130)
+                                               : entered(&t, place, slot, animal, 7, issued, 130));
+    }
+    give_back(&t);
+    return holds;
+}
+
+/* Each way to 12 by itself, and what is good. Some numbers would be good if they were cut to fewer bits. */
+static void ways_to_12(void) {
+    static const size_t wide = (size_t)1 << 32, half = (size_t)1 << 63;
+    const struct {
+        size_t from;
+        uint32_t tag;
+        size_t to;
+        uint32_t refusal;
+    } steps[] = {
+        {13, 225, 8, 0}, {13, 225, 9, 0}, {12, 86, 2, 0}, {6, tag_of(20), 2, 0},
+        /* The source is not there. */
+        {16, 225, 8, 12}, {13 + wide, 225, 8, 12}, {13 + half, 225, 8, 12}, {SIZE_MAX, 225, 8, 12},
+        /* The destination is not there. */
+        {13, 225, 16, 12}, {13, 225, 8 + wide, 12}, {13, 225, 8 + half, 12}, {13, 225, SIZE_MAX, 12},
+        /* The source is free. */
+        {9, 0, 14, 12}, {9, 225, 14, 12}, {9, 1, 14, 12},
+        /* The source is damaged: no tag, a tag or a place that is too large. */
+        {10, 0, 14, 12}, {10, 9, 14, 12}, {11, 256, 14, 12}, {11, 0, 14, 12}, {11, 1, 14, 12}, {15, 225, 8, 12},
+        /* Another tag; all but two have the destination in the other bucket as well. */
+        {13, 224, 8, 12}, {13, 226, 8, 12}, {13, 0, 8, 12}, {13, 225 + 256, 8, 12}, {13, 225 + 65536, 8, 12},
+        {13, 225u << 24, 8, 12}, {13, UINT32_MAX, 8, 12},
+        /* The destination is taken. */
+        {13, 225, 10, 12}, {13, 225, 11, 12}, {13, 225, 12, 12}, {13, 225, 13, 12},
+        /* The destination is in the entry's own bucket, or in a third one. */
+        {13, 225, 14, 12}, {13, 225, 2, 12}, {13, 225, 5, 12}, {12, 86, 8, 12}, {12, 86, 5, 12}};
+    const struct {
+        size_t place, slot;
+        uint32_t refusal;
+    } stores[] = {
+        {12, 2, 0}, {13, 2, 0}, {2, 2, 0}, {10, 5, 0}, {5, 5, 0},
+        /* The place is taken. */
+        {0, 2, 12}, {11, 5, 12}, {14, 2, 12},
+        /* The place is not there. */
+        {15, 2, 12}, {12 + 65536, 2, 12}, {12 + wide, 2, 12}, {12 + half, 2, 12}, {12 + half / 2, 2, 12},
+        {SIZE_MAX, 2, 12}, {SIZE_MAX / 4, 2, 12},
+        /* The slot is taken, or in a bucket that is not hers. */
+        {12, 0, 12}, {12, 4, 12}, {12, 6, 12}, {12, 8, 12}, {12, 10, 12}, {12, 14, 12},
+        /* The slot is not there. */
+        {12, 16, 12}, {12, 2 + wide, 12}, {12, 2 + half, 12}, {12, SIZE_MAX, 12}};
+    Table t = thinned();
+    for (size_t k = 0; k < sizeof steps / sizeof steps[0]; k++) {
+        BoughladderMove move = one_move(steps[k].from, steps[k].tag, steps[k].to);
+        CHECK(in_turn(&t, &move, 0, 0, steps[k].refusal));
+    }
+    for (size_t k = 0; k < sizeof stores / sizeof stores[0]; k++)
+        CHECK(in_turn(&t, NULL, stores[k].place, stores[k].slot, stores[k].refusal));
+    /* She is held, in either bucket: no final store; but a move. */
+    for (size_t slot = 2; slot <= 5; slot += 3) {
+        BoughladderMove move = one_move(13, 225, 8);
+        CHECK(entered(&t, 12, slot, 17, 7, 110, 130) == 0);
+        CHECK(in_turn(&t, NULL, 13, 7 - slot, 12) && in_turn(&t, NULL, 12, slot, 12));
+        CHECK(in_turn(&t, &move, 0, 0, 0));
+        CHECK(planned(&t, 17, 7, 110, 130).refusal == BOUGHLADDER_NOT_AS_PLANNED);
+        CHECK(boughladder_delete(LENT(t), 17) == 0);
+    }
+    /* The words behind what is lent are no place, though they are 0. */
+    t.i = 4 * 12;
+    CHECK(entered(&t, 12, 2, 17, 7, 110, 130) == BOUGHLADDER_NOT_AS_PLANNED && t.items[4 * 12] == 0);
+    give_back(&t);
+}
+
+/* Every slot to every slot, by its tag and by others; every place with every slot, absent or held. */
+static void every_step(void) {
+    Table t = thinned(), before = thinned();
+    unsigned long made = 0;
+    for (size_t from = 0; from < 18; from++)
+        for (size_t to = 0; to < 18; to++)
+            for (int k = 0; k < 4; k++) {
+                uint32_t tag = from < 16 && k < 3 ? t.slots[from] / 65536 : 225;
+                made += moved(&t, one_move(from, k == 1 ? tag + 4 : k == 2 ? tag + 256 : tag, to), 17, 110, 130) == 0;
+                copy(&t, &before);
+            }
+    /* 1, 5, 13, 12, 20, 24 and 2 have one free slot to go to; 6 has two, and is tried twice by its tag, 225. */
+    CHECK(made == 7 + 2 * 2);
+    made = 0;
+    for (size_t place = 0; place < 17; place++)
+        for (size_t slot = 0; slot < 18; slot++)
+            for (uint64_t animal = 17; animal <= 37; animal += 20) {
+                made += entered(&t, place, slot, animal, 7, 110, 130) == 0;
+                CHECK(entered(&t, place, slot, 13, 7, 110, 130) == BOUGHLADDER_NOT_AS_PLANNED);
+                copy(&t, &before);
+            }
+    /* Five vacant places, two free slots of both buckets, two animals. */
+    CHECK(made == 5 * 2 * 2);
+    give_back(&t), give_back(&before);
+}
+
+/* What a step does not ask for. */
+static void not_asked(void) {
+    Table t = crowd(4, 14);
+    /* The entry that is moved is busy, its counter wraps, and its place is vacant or holds another one. */
+    for (uint32_t count = 0; count < 8; count++) {
+        t.counters[2] = 7 - 4 * count, t.items[4 * 9] = count % 3 == 0 ? 6 : count % 3 == 1 ? 0 : 99;
+        CHECK(moved(&t, count % 2 == 0 ? one_move(13, 225, 8) : one_move(8, 225, 13), 17, 110, 130) == 0);
+        CHECK(t.counters[2] == 9 - 4 * count);
+    }
+    t.items[4 * 9] = 6, t.counters[2] = 6;
+    /* Another word beside the destination is damaged, and lower slots are free. */
+    t.slots[9] = UINT32_MAX;
+    CHECK(moved(&t, one_move(13, 225, 11), 17, 110, 130) == 0 && moved(&t, one_move(11, 225, 13), 17, 110, 130) == 0);
+    t.slots[9] = 0;
+    CHECK(moved(&t, one_move(13, 225, 8), 17, 110, 130) == 0 && moved(&t, one_move(0, 62, 13), 17, 110, 130) == 0);
+    /* A slot points to the vacant place already, something is left in its words, and a lower place is vacant. */
+    t.slots[10] = 65536 + 13, memset(t.items + 4 * 13 + 1, 0xa5, 24);
+    CHECK(entered(&t, 13, 0, 17, 0, 0, 0) == 0);
+    CHECK(t.items[4 * 13 + 1] == 0 && t.items[4 * 13 + 2] == 0 && t.items[4 * 13 + 3] == 1);
+    /* Her slot is lost: who is absent to a read is absent to a step, and has a second place then, as by a set. */
+    t.slots[10] = 0, t.slots[0] = 0;
+    CHECK(planned(&t, 17, 7, 110, 130).refusal == 0);
+    CHECK(entered(&t, 12, 0, 17, UINT32_MAX, UINT64_MAX - 1, UINT64_MAX - 1) == 0);
+    CHECK(t.items[4 * 12 + 1] == UINT32_MAX && told(&t, BOUGHLADDER_NOT_ONE_SLOT, 13));
+    give_back(&t);
+
+    /* One of her tag and her buckets, or even with the low half of her number: that does not make her held. */
+    t = lend(16, 4, 16);
+    CHECK(boughladder_fresh(LENT(t)) == 0 && boughladder_set(LENT(t), 50, 5, 100, 100).refusal == 0);
+    CHECK(tag_of(50) == tag_of(198) && planned(&t, 198, 7, 110, 130).refusal == 0);
+    t.items[0] = 198 + ((uint64_t)1 << 32);
+    CHECK(planned(&t, 198, 7, 110, 130).refusal == 0 && entered(&t, 2, 14, 198, 7, 110, 130) == 0);
+    CHECK(boughladder_delete(LENT(t), 198) == 0);
+    t.items[0] = 50;
+    CHECK(entered(&t, 1, 13, 198, 7, 110, 130) == 0 && told(&t, BOUGHLADDER_SOUND, 0));
+    CHECK(planned(&t, 198, 7, 110, 130).refusal == BOUGHLADDER_NOT_AS_PLANNED);
+    give_back(&t);
+}
+
 /* xorshift: the same garbage in every run. */
 static uint64_t state = 88172645463325252u;
 
@@ -1463,9 +1954,51 @@ static int spoil(Table *t) {
     return 0;
 }
 
+/* A number that may be good, that of a good one with a bit more, or any. */
+static size_t about(size_t good, size_t count) {
+    switch (any() % 8) {
+        case 0: return (size_t)edge();
+        case 1: return good + ((size_t)1 << (16 + any() % 48));
+        case 2: return count == 0 ? 0 : any() % count;
+        default: return good;
+    }
+}
+
+/* A move that may be good. */
+static BoughladderMove any_move(const Table *t) {
+    size_t from = 0, to = 0;
+    uint32_t tag = 0;
+    if (wrong_run(t) == 3) {
+        for (int tries = 0; tries < 8 && t->slots[from] == 0; tries++) from = any() % t->s;
+        tag = t->slots[from] / 65536;
+        to = 4 * other_bucket(t, from / 4, tag) + any() % 4;
+    }
+    if (any() % 8 == 0) tag ^= (uint32_t)1 << any() % 32;
+    from = about(from, t->s), to = about(to, t->s);
+    return one_move(from, tag, to);
+}
+
+/* A place that may be vacant, and a slot that may be free and the animal's. */
+static size_t any_place(const Table *t) {
+    size_t place = 0;
+    if (wrong_run(t) == 3)
+        for (int tries = 0; tries < 8 && t->items[4 * place] != 0; tries++) place = any() % (t->i / 4);
+    return about(place, t->i / 4);
+}
+
+static size_t any_slot(const Table *t, uint64_t animal) {
+    size_t slot = 0;
+    if (wrong_run(t) == 3) {
+        Homes h = homes_of(t, animal);
+        slot = h.slots[any() % 8];
+        for (int tries = 0; tries < 8 && t->slots[slot] != 0; tries++) slot = h.slots[any() % 8];
+    }
+    return about(slot, t->s);
+}
+
 /* How many sets on garbage were late, how many replaced what is retired, how often serve met that, how often plain read
-   walked on where read refuses, and what judge said. */
-static unsigned long late, replaced, met_retired, walked_on, conditions[9];
+   walked on where read refuses, what judge said, and what plan and the steps said. */
+static unsigned long late, replaced, met_retired, walked_on, conditions[9], plans_by[13], moves_by[13], stores_by[13];
 
 /* Every call on garbage: a refusal changes nothing, and the largest cut is the whole call. After a yes no call finds a
    damaged word or a busy counter, and what it leaves gets a yes. */
@@ -1481,6 +2014,7 @@ static void garbage(size_t s, size_t c, size_t i) {
     BoughladderJudgement judgement;
     int made, yes;
     BoughladderSetting set, set_cut;
+    BoughladderPlan plan, must;
     BoughladderEvicting out, out_cut;
     BoughladderListing list;
     memset(buffer, 0xee, bytes);
@@ -1526,6 +2060,36 @@ static void garbage(size_t s, size_t c, size_t i) {
     copy(&t, &before);
     set_cut = boughladder_set_cut(LENT(t), animal, permission, issued, now, k);
     CHECK(sets(set_cut, set.refusal, set.visits, set.moves) && (k > 0 || same(&t, &before)));
+    copy(&t, &before);
+
+    /* Plan refuses as set does, but any held animal is 12; its steps one after the other are the set. */
+    plan = boughladder_plan(LENT(t), animal, permission, issued, now), must = owed_plan(&t, animal, issued, now);
+    CHECK(plans_alike(&plan, &must) && same(&t, &before));
+    plans_by[must.refusal]++;
+    if (found.kind == BOUGHLADDER_AT_PLACE && (set.refusal == 0 || set.refusal == BOUGHLADDER_LATE))
+        CHECK(plan.refusal == BOUGHLADDER_NOT_AS_PLANNED);
+    else CHECK(plan.refusal == set.refusal && plan.count == set.moves);
+    if (plan.refusal == 0) {
+        for (size_t n = 0; n < plan.count; n++) CHECK(moved(&t, plan.moves[n], animal, issued, now) == 0);
+        CHECK(entered(&t, plan.place, plan.slot, animal, permission, issued, now) == 0 && same(&t, &whole));
+        copy(&t, &before);
+    }
+    /* Any steps: they are judged by what they find. */
+    for (uint64_t steps = r.refusal == BOUGHLADDER_BAD_SHAPE ? any() % 2 : 3; steps > 0; steps--) {
+        served = boughladder_read(LENT(t), animal, limit, now);
+        if (any() % 3 != 0) {
+            refusal = moved(&t, any_move(&t), animal, issued, now);
+            moves_by[refusal % 13]++;
+            CHECK(!yes || alike(boughladder_read(LENT(t), animal, limit, now), served));
+        } else {
+            size_t place = any_place(&t), slot = any_slot(&t, animal);
+            refusal = entered(&t, place, slot, animal, permission, issued, now);
+            stores_by[refusal % 13]++;
+            if (yes && refusal == 0)
+                CHECK(reads(boughladder_read(LENT(t), animal, 720, issued), 0, BOUGHLADDER_FRESH, permission, 720));
+        }
+        CHECK(!yes || refusal != 0 || is_sound(&t));
+    }
     copy(&t, &before);
 
     refusal = boughladder_delete(LENT(t), animal);
@@ -1626,6 +2190,75 @@ static void another_workshop(int tables) {
     }
 }
 
+/* Whether all animals but one read as they did. */
+static int others_kept(const Table *t, const Table *before, uint64_t animal) {
+    for (size_t k = 0; k < t->i; k += 4) {
+        uint64_t other = before->items[k];
+        BoughladderReading r = boughladder_read(LENT(*before), other, 720, 130);
+        if (other != animal && !alike(boughladder_read(LENT(*t), other, 720, 130), r)) return 0;
+    }
+    return 1;
+}
+
+/* A call between two steps. */
+static void between(Table *t, size_t *hand) {
+    uint64_t animal = t->items[4 * (any() % (t->i / 4))], other = any() | 1;
+    BoughladderEvicting out;
+    switch (any() % 5) {
+        case 0: CHECK(boughladder_serve(LENT(*t), animal, 720, 130).refusal == (animal == 0 ? 2 : 0)); break;
+        case 1: CHECK(boughladder_delete(LENT(*t), animal) == (animal == 0 ? 2u : 0u)); break;
+        case 2: CHECK(boughladder_set(LENT(*t), other, 5, 110, 130).refusal <= 6); break;
+        case 3: CHECK(moved(t, any_move(t), other, 110, 130) % 12 == 0); break;
+        default:
+            out = boughladder_evict(LENT(*t), *hand);
+            CHECK(out.refusal == 0);
+            *hand = out.hand;
+    }
+}
+
+/* How many moves the plans in crowded tables had; how many steps were too late. */
+static unsigned long planned_moves[5], stale;
+
+/* Tables full of scattered numbers. The last animals come in steps: first without a call between, then with some. After
+   each step the table is sound, and no other animal's answer has changed. */
+static void crowded(int tables) {
+    for (; tables > 0; tables--) {
+        size_t slots = (size_t)16 << any() % 4, hand = 0;
+        Table t = lend(slots, 1 + any() % 8, 4 * slots), before = lend(slots, t.c, 4 * slots);
+        BoughladderPlan plan;
+        CHECK(boughladder_fresh(LENT(t)) == 0);
+        for (size_t k = 0; k < slots / 16 * 15; k++)
+            CHECK(boughladder_set(LENT(t), any() | 1, 5, 100, 100).refusal % 6 == 0);
+        for (int tries = 0; tries < 12; tries++) {
+            uint64_t animal = any() | 1;
+            plan = planned(&t, animal, 7, 110, 130);
+            if (plan.refusal != 0) {
+                CHECK(refuses(&t, animal, 110, 130, plan.refusal));
+                hand = boughladder_evict(LENT(t), hand).hand;
+            } else {
+                planned_moves[plan.count]++;
+                CHECK(carried_out(&t, animal, plan.count).slot == plan.slot);
+                CHECK(boughladder_set(LENT(t), animal, 7, 110, 130).refusal == 0);
+            }
+        }
+        for (int tries = 0; tries < 12; tries++) {
+            uint64_t animal = any() | 1;
+            uint32_t refusal = 0;
+            plan = planned(&t, animal, 7, 110, 130);
+            if (plan.refusal != 0) plan.count = 0;
+            for (size_t k = 0; k <= plan.count && refusal == 0; k++) {
+                if (any() % 2 == 0) between(&t, &hand);
+                copy(&before, &t);
+                refusal = k < plan.count ? moved(&t, plan.moves[k], animal, 110, 130)
+                                         : entered(&t, plan.place, plan.slot, animal, 7, 110, 130);
+                CHECK(refusal % 12 == 0 && told(&t, BOUGHLADDER_SOUND, 0) && others_kept(&t, &before, animal));
+            }
+            stale += plan.refusal == 0 && refusal != 0;
+        }
+        give_back(&t), give_back(&before);
+    }
+}
+
 /* A run of calls over a table, and the same calls over the runs of a copy: the same replies and the same words. Without
    cuts plain read agrees with read after each of them, and judge says yes; with cuts it tells the odd counter. */
 static void twins(int rounds, int cuts_too) {
@@ -1641,10 +2274,13 @@ static void twins(int rounds, int cuts_too) {
         BoughladderReading r;
         BoughladderFinding f;
         BoughladderSetting s, s_table;
+        BoughladderPlan p, p_table;
+        BoughladderMove m;
         BoughladderEvicting e;
         BoughladderListing l;
+        size_t slot;
         memset(one, 0xee, sizeof one), memset(other, 0xee, sizeof other);
-        switch (!cuts_too ? what % 8 : what < 12 ? what : what % 4 * 2) {
+        switch (!cuts_too ? what % 11 : what < 15 ? what : what % 4 * 2) {
             case 0:
                 s = boughladder_set(LENT(b), animal, permission, issued, now);
                 s_table = boughladder_table_set(&t, animal, permission, issued, now);
@@ -1683,16 +2319,31 @@ static void twins(int rounds, int cuts_too) {
                 CHECK(lists(boughladder_table_list(&t, one, sizeof one - 20 * (k % 3)), l.refusal, l.count));
                 break;
             case 8:
+                p = boughladder_plan(LENT(b), animal, permission, issued, now);
+                p_table = boughladder_table_plan(&t, animal, permission, issued, now);
+                CHECK(plans_alike(&p_table, &p));
+                break;
+            case 9:
+                m = any_move(&b);
+                refusal = boughladder_step_move(LENT(b), m, animal, permission, issued, now);
+                CHECK(boughladder_table_step_move(&t, m, animal, permission, issued, now) == refusal);
+                break;
+            case 10:
+                place = any_place(&b), slot = any_slot(&b, animal);
+                refusal = boughladder_step_enter(LENT(b), place, slot, animal, permission, issued, now);
+                CHECK(boughladder_table_step_enter(&t, place, slot, animal, permission, issued, now) == refusal);
+                break;
+            case 11:
                 s = boughladder_set_cut(LENT(b), animal, permission, issued, now, k);
                 s_table = boughladder_table_set_cut(&t, animal, permission, issued, now, k);
                 CHECK(sets(s_table, s.refusal, s.visits, s.moves));
                 break;
-            case 9:
+            case 12:
                 s = boughladder_set(LENT(b), animal, permission, issued, now);
                 s_table = boughladder_table_set_cut(&t, animal, permission, issued, now, BOUGHLADDER_ALL_STORES);
                 CHECK(sets(s_table, s.refusal, s.visits, s.moves));
                 break;
-            case 10:
+            case 13:
                 refusal = boughladder_delete_cut(LENT(b), animal, k);
                 CHECK(boughladder_table_delete_cut(&t, animal, k) == refusal);
                 break;
@@ -1716,8 +2367,8 @@ int main(int n, char **words) {
     ages(), lefts(), issues(), turns(0), turns(1), retired(), retired_replaced();
     moves(), clocks(), the_list(), cuts(), plain(), plain_walks();
     wrong_lengths(), words_judged(), slots_judged(), places_judged(), conditions_in_turn(), ends_judged();
-    cuts_judged();
-    twins(3000, 1), twins(300, 0), another_workshop(60);
+    cuts_judged(), plans(), read_only(), ways_to_12(), every_step(), not_asked();
+    crowded(20), twins(3000, 1), twins(300, 0), another_workshop(60);
     /* Each length from 0 on, of one run beside two good ones. */
     for (size_t l = 0; l <= 2100; l++) {
         garbage(l, 1 + any() % 8, 4 * (1 + any() % 8));
@@ -1731,6 +2382,13 @@ int main(int n, char **words) {
     }
     CHECK(late > 0 && replaced > 0 && met_retired > 0 && walked_on > 0);
     for (int k = 0; k < 9; k++) CHECK(conditions[k] > 0);
+    for (int k = 0; k < 5; k++) CHECK(planned_moves[k] > 0);
+    for (int k = 0; k < 13; k++) {
+        int step = k <= 4 || k == 8 || k == 12;
+        CHECK((plans_by[k] > 0) == (step || k == 5 || k == 6));
+        CHECK((moves_by[k] > 0) == step && (stores_by[k] > 0) == step);
+    }
+    CHECK(stale > 0);
     if (failed != 0) {
         printf("%lu checks failed\n", failed);
         return 1;

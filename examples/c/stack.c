@@ -18,7 +18,8 @@ static uint8_t buffer[BOUGHLADDER_LIST_BYTES(260)];
 static BoughladderTable table = BOUGHLADDER_TABLE(slots, counters, items);
 static uint64_t animal, k;
 static size_t hand;
-static volatile uint64_t told; /* so that no call is left out */
+static BoughladderPlan planned; /* for that animal; no part of the stack */
+static volatile uint64_t told;  /* so that no call is left out */
 
 static void none(void) { told = 0; }
 static void fresh(void) { told = boughladder_table_fresh(&table); }
@@ -27,6 +28,11 @@ static void serve(void) { told = boughladder_table_serve(&table, animal, 720, 10
 static void find(void) { told = boughladder_table_find(&table, animal).place; }
 static void set(void) { told = boughladder_table_set(&table, animal, 1, 100, 100).visits; }
 static void set_cut(void) { told = boughladder_table_set_cut(&table, animal, 1, 100, 100, k).visits; }
+static void plan(void) { planned = boughladder_table_plan(&table, animal, 1, 100, 100); }
+static void step_move(void) { told = boughladder_table_step_move(&table, planned.moves[0], animal, 1, 100, 100); }
+static void step_enter(void) {
+    told = boughladder_table_step_enter(&table, planned.place, planned.slot, animal, 1, 100, 100);
+}
 static void delete_one(void) { told = boughladder_table_delete(&table, animal); }
 static void delete_cut(void) { told = boughladder_table_delete_cut(&table, animal, k); }
 static void evict(void) { told = boughladder_table_evict(&table, hand).hand; }
@@ -43,7 +49,8 @@ static struct {
              {"find", find, OTHER, 0},           {"judge", judge, OTHER, 0},       {"set", set, SET, 0},
              {"set_cut", set_cut, SET, 0},       {"delete", delete_one, OTHER, 0}, {"delete_cut", delete_cut, OTHER, 0},
              {"evict", evict, OTHER, 0},         {"evict_cut", evict_cut, OTHER, 0}, {"list", list, OTHER, 0},
-             {"plain_read", plain_read, OTHER, 0}};
+             {"plain_read", plain_read, OTHER, 0}, {"plan", plan, SET, 0}, {"step_move", step_move, OTHER, 0},
+             {"step_enter", step_enter, OTHER, 0}};
 enum { CALLS = sizeof calls / sizeof calls[0] };
 
 static ucontext_t here, there;
@@ -80,6 +87,7 @@ int main(void) {
             size_t took;
             animal = rand() % 3 == 0 ? (uint64_t)rand() : items[4 * ((size_t)rand() % 100)];
             k = (uint64_t)rand() % 12, hand = (size_t)rand() % 260;
+            plan();
             took = used(calls[n].call) - empty;
             if (took > calls[n].took) calls[n].took = took;
         }

@@ -5,6 +5,7 @@ static uint32_t slots[BOUGHLADDER_SLOTS(64)], counters[16], more[65];
 static uint64_t items[BOUGHLADDER_ITEMS(200)];
 static int32_t signed_words[16];
 BoughladderTable table = BOUGHLADDER_TABLE(slots, counters, items);
+static BoughladderPlan plan;
 void print(uint64_t minutes);
 uint16_t wrong(uint32_t *pointer, const BoughladderTable *read_only, uint64_t limit);
 uint16_t wrong(uint32_t *pointer, const BoughladderTable *read_only, uint64_t limit) {
@@ -24,6 +25,13 @@ uint16_t wrong(uint32_t *pointer, const BoughladderTable *read_only, uint64_t li
     answer = (uint16_t)(answer + (boughladder_table_read(&table, 1, limit, 3).left == BOUGHLADDER_LEAST_LEFT));
     answer = (uint16_t)(answer + boughladder_table_judge(read_only).condition);
     answer = (uint16_t)(answer + boughladder_judge(slots, 256, counters, 16, items, 800).at);
+    plan = boughladder_table_plan(read_only, 1, 2, 3, 4);
+    plan = boughladder_plan(slots, 256, counters, 16, items, 800, 1, 2, 3, 4);
+    answer = (uint16_t)(answer + boughladder_table_step_move(&table, plan.moves[0], 1, 2, 3, 4));
+    answer = (uint16_t)(answer +
+                        boughladder_step_move(slots, 256, counters, 16, items, 800, plan.moves[0], 1, 2, 3, 4));
+    answer = (uint16_t)(answer + boughladder_table_step_enter(&table, plan.place, plan.slot, 1, 2, 3, 4));
+    answer = (uint16_t)(answer + boughladder_step_enter(slots, 256, counters, 16, items, 800, 5, 6, 1, 2, 3, 4));
 #elif WRONG == 1 /* slots and counters swapped */
     BoughladderTable other = BOUGHLADDER_TABLE(counters, slots, items);
 #elif WRONG == 2 /* a pointer, whose length nobody knows */
@@ -80,10 +88,44 @@ uint16_t wrong(uint32_t *pointer, const BoughladderTable *read_only, uint64_t li
     answer = (uint16_t)boughladder_set_cut(slots, 256, counters, 16, items, 800, 1, 2, 3, 4, 0, 5).refusal;
 #elif WRONG == 28 /* a caller of 3.x, which looks for standing stamps in a list */
     answer = items[2] == BOUGHLADDER_STANDING;
+#elif WRONG == 29 /* a plan that nobody looks at */
+    boughladder_table_plan(&table, 1, 2, 3, 4);
+#elif WRONG == 30 /* the same with a call over the runs */
+    boughladder_plan(slots, 256, counters, 16, items, 800, 1, 2, 3, 4);
+#elif WRONG == 31 /* a move that may be stale by now, and nobody looks */
+    boughladder_table_step_move(&table, plan.moves[0], 1, 2, 3, 4);
+#elif WRONG == 32 /* the same with a call over the runs */
+    boughladder_step_move(slots, 256, counters, 16, items, 800, plan.moves[0], 1, 2, 3, 4);
+#elif WRONG == 33 /* a final store, likewise */
+    boughladder_table_step_enter(&table, plan.place, plan.slot, 1, 2, 3, 4);
+#elif WRONG == 34 /* the same with a call over the runs */
+    boughladder_step_enter(slots, 256, counters, 16, items, 800, 5, 6, 1, 2, 3, 4);
+#elif WRONG == 35 /* a task that may only read makes a move */
+    answer = (uint16_t)boughladder_table_step_move(read_only, plan.moves[0], 1, 2, 3, 4);
+#elif WRONG == 36 /* the same with the final store */
+    answer = (uint16_t)boughladder_table_step_enter(read_only, plan.place, plan.slot, 1, 2, 3, 4);
+#elif WRONG == 37 /* the whole plan where one move is wanted */
+    answer = (uint16_t)boughladder_table_step_move(&table, plan, 1, 2, 3, 4);
+#elif WRONG == 38 /* all its moves */
+    answer = (uint16_t)boughladder_table_step_move(&table, plan.moves, 1, 2, 3, 4);
+#elif WRONG == 39 /* a move by its numbers */
+    answer = (uint16_t)boughladder_table_step_move(&table, 5, 62, 6, 1, 2, 3, 4);
+#elif WRONG == 40 /* a move without set's inputs */
+    answer = (uint16_t)boughladder_table_step_move(&table, plan.moves[0]);
+#elif WRONG == 41 /* a final store that leaves place and slot out */
+    answer = (uint16_t)boughladder_table_step_enter(&table, 1, 2, 3, 4);
+#elif WRONG == 42 /* that takes them from the plan */
+    answer = (uint16_t)boughladder_table_step_enter(&table, plan, 1, 2, 3, 4);
+#elif WRONG == 43 /* that leaves the slot out */
+    answer = (uint16_t)boughladder_step_enter(slots, 256, counters, 16, items, 800, 5, 1, 2, 3, 4);
+#elif WRONG == 44 /* a plan tells no visits */
+    answer = (uint16_t)boughladder_table_plan(&table, 1, 2, 3, 4).visits;
+#elif WRONG == 45 /* a step answers its refusal number, and no setting */
+    answer = (uint16_t)boughladder_table_step_enter(&table, plan.place, plan.slot, 1, 2, 3, 4).refusal;
 #endif
 #if WRONG >= 1 && WRONG <= 5
     answer = (uint16_t)other.slots_length;
 #endif
-    (void)more, (void)signed_words, (void)pointer, (void)read_only, (void)limit;
+    (void)more, (void)signed_words, (void)pointer, (void)read_only, (void)limit, (void)plan;
     return answer;
 }

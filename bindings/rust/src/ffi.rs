@@ -23,6 +23,22 @@ pub struct Setting {
 }
 
 #[repr(C)]
+pub struct Move {
+    pub from: usize,
+    pub tag: u32,
+    pub to: usize,
+}
+
+#[repr(C)]
+pub struct Plan {
+    pub refusal: u32,
+    pub count: usize,
+    pub place: usize,
+    pub slot: usize,
+    pub moves: [Move; 4],
+}
+
+#[repr(C)]
 pub struct Evicting {
     pub refusal: u32,
     pub victim: u64,
@@ -55,6 +71,12 @@ extern "C" {
         animal: u64, permission: u32, issued: u64, now: u64) -> Setting;
     pub fn boughladder_set_cut(s: *mut u32, sl: usize, c: *mut u32, cl: usize, i: *mut u64, il: usize,
         animal: u64, permission: u32, issued: u64, now: u64, k: u64) -> Setting;
+    pub fn boughladder_plan(s: *const u32, sl: usize, c: *const u32, cl: usize, i: *const u64, il: usize,
+        animal: u64, permission: u32, issued: u64, now: u64) -> Plan;
+    pub fn boughladder_step_move(s: *mut u32, sl: usize, c: *mut u32, cl: usize, i: *const u64, il: usize,
+        planned: Move, animal: u64, permission: u32, issued: u64, now: u64) -> u32;
+    pub fn boughladder_step_enter(s: *mut u32, sl: usize, c: *mut u32, cl: usize, i: *mut u64, il: usize,
+        place: usize, slot: usize, animal: u64, permission: u32, issued: u64, now: u64) -> u32;
     pub fn boughladder_delete(s: *mut u32, sl: usize, c: *mut u32, cl: usize, i: *mut u64, il: usize,
         animal: u64) -> u32;
     pub fn boughladder_delete_cut(s: *mut u32, sl: usize, c: *mut u32, cl: usize, i: *mut u64, il: usize,

@@ -13,13 +13,31 @@
 //!
 //! Every call is safe on slices of any length and contents: it ends, touches nothing outside of them, and says what it
 //! found. Calls that write take `&mut self`, serve too, so no other call runs beside them. Two threads share a table in
-//! a `Mutex`, or in a `RwLock`: reads, plain reads, finds, lists and judges may run beside each other.
+//! a `Mutex`, or in a `RwLock`: reads, plain reads, finds, lists, judges and plans may run beside each other.
 //!
 //! A set takes two minutes, issued before now. `issued` is when the office gave the permission, as the list says; it
 //! becomes the stamp. `now` is the gate's clock. Swapped, they are [`Refusal::BadTime`] where issued is earlier than
 //! now; where it is later, now becomes the stamp, which is wrong. A list that was issued before what is held is
 //! [`Refusal::Late`], and nothing else stops a late list: after a delete or an eviction it is stored. What came with
 //! minutes that ran ahead makes every true list late until the animal is deleted.
+//!
+//! A set in steps, with any calls between: [`Table::plan`] says what a set of an absent animal would do now,
+//! [`Table::step_move`] makes one of its moves after the other, and [`Table::step_enter`] the final store. Without
+//! calls between they leave what the set leaves, word for word. Nothing is reserved, and nothing ties a step to its
+//! plan: each is judged by the words that it finds. Where it can't be made any more it is [`Refusal::NotAsPlanned`],
+//! and no word changes: plan again, or set. An update has no steps: it is a set.
+//!
+//! ```no_run
+//! # use boughladder::{Refusal, Table};
+//! # fn in_steps(table: &mut Table) -> Result<(), Refusal> {
+//! let plan = table.plan(4711, 1, 100, 110)?;
+//! for planned in plan.moves() {
+//!     table.step_move(*planned, 4711, 1, 100, 110)?; // other calls may come before it and after it
+//! }
+//! table.step_enter(plan.place, plan.slot, 4711, 1, 100, 110)?;
+//! # Ok(())
+//! # }
+//! ```
 //!
 //! Standing permissions are retired: no set makes one. A table from before 4.0.0 may hold some, stamped
 //! [`RETIRED_MARK`]. Such an entry is old with [`LEAST_LEFT`] at every minute and under every limit, so it opens no
@@ -46,6 +64,8 @@ pub const fn list_bytes(m: usize) -> usize {
 
 /// The bytes of one record of a list.
 pub const RECORD_BYTES: usize = 20;
+/// The most moves of a set, and so of a plan.
+pub const MOST_MOVES: usize = 4;
 /// The largest limit in minutes: a week.
 pub const LARGEST_LIMIT: u64 = 10080;
 /// The least that is told to be left, -2^62 minutes: what would be less is told as this.
@@ -72,9 +92,9 @@ pub enum Refusal {
     BadTime,
     /// A damaged word was read, or evict's victim has no slot. Make it fresh and load the list again.
     Damaged,
-    /// Set of an absent animal: all places are taken.
+    /// Set or plan of an absent animal: all places are taken.
     NoPlace,
-    /// Set of an absent animal: no free slot within four moves.
+    /// Set or plan of an absent animal: no free slot within four moves.
     NoRoom,
     /// Delete of an absent animal, or nobody is there to evict.
     Nobody,
@@ -86,11 +106,13 @@ pub enum Refusal {
     NoVictim,
     /// Set of a held animal: its stamp is later than issued, and not retired. It keeps what it has.
     Late,
+    /// Plan of a held animal, or a step that can't be made as it was planned. Plan again, or set.
+    NotAsPlanned,
     /// A number that this crate does not know: the archive is of another version.
     Unknown(u32),
 }
 
-const REFUSALS: [Refusal; 11] = [
+const REFUSALS: [Refusal; 12] = [
     Refusal::BadShape,
     Refusal::NoAnimal,
     Refusal::BadTime,
@@ -102,6 +124,7 @@ const REFUSALS: [Refusal; 11] = [
     Refusal::ShortBuffer,
     Refusal::NoVictim,
     Refusal::Late,
+    Refusal::NotAsPlanned,
 ];
 
 impl Refusal {
@@ -124,6 +147,7 @@ impl Refusal {
             Refusal::ShortBuffer => 9,
             Refusal::NoVictim => 10,
             Refusal::Late => 11,
+            Refusal::NotAsPlanned => 12,
             Refusal::Unknown(number) => number,
         }
     }
@@ -143,6 +167,7 @@ impl fmt::Display for Refusal {
             Refusal::ShortBuffer => "the buffer is too short for the list",
             Refusal::NoVictim => "the hand found no victim",
             Refusal::Late => "late: a permission that was issued later is held",
+            Refusal::NotAsPlanned => "the animal to plan for is held, or a step can't be made as planned",
             Refusal::Unknown(_) => "no refusal number",
         })
     }
@@ -190,6 +215,35 @@ pub struct Stored {
     pub visits: usize,
     /// Entries moved to make room, at most 4.
     pub moves: usize,
+}
+
+/// One move of a plan.
+#[derive(Clone, Copy, Debug, PartialEq, Eq)]
+pub struct Move {
+    /// The slot that it empties.
+    pub from: usize,
+    /// The tag of the entry there.
+    pub tag: u32,
+    /// The slot that the entry goes to.
+    pub to: usize,
+}
+
+/// What plan says: what a set would do now. Later it may not be possible any more, nor the least that is needed.
+#[derive(Clone, Copy, Debug, PartialEq, Eq)]
+pub struct Plan {
+    /// The place for the final store.
+    pub place: usize,
+    /// Its slot, which the last move leaves free.
+    pub slot: usize,
+    count: usize,
+    moves: [Move; MOST_MOVES],
+}
+
+impl Plan {
+    /// The moves in the order of making, at most 4.
+    pub fn moves(&self) -> &[Move] {
+        &self.moves[..self.count]
+    }
 }
 
 /// What evict says when it took an animal away.
@@ -396,6 +450,11 @@ fn stored(r: ffi::Setting) -> Result<Stored, Refusal> {
     done(r.refusal, Stored { visits: r.visits, moves: r.moves })
 }
 
+fn planned(r: ffi::Plan) -> Result<Plan, Refusal> {
+    let moves = r.moves.map(|one| Move { from: one.from, tag: one.tag, to: one.to });
+    done(r.refusal, Plan { place: r.place, slot: r.slot, count: r.count, moves })
+}
+
 fn evicted(r: ffi::Evicting) -> Result<Evicted, Refusal> {
     done(r.refusal, Evicted { victim: r.victim, looked: r.looked, hand: r.hand })
 }
@@ -468,6 +527,49 @@ impl Table<'_> {
     /// Set, of which only the first k stores are made, as a loss of power leaves it.
     pub fn set_cut(&mut self, animal: u64, permission: u32, issued: u64, now: u64, k: u64) -> Result<Stored, Refusal> {
         stored(writes!(self, boughladder_set_cut, animal, permission, issued, now, k))
+    }
+
+    /// Says what a set of an absent animal would do now, and changes nothing: its moves, its place, its slot. Of a held
+    /// animal it is [`Refusal::NotAsPlanned`], never [`Refusal::Late`]; all other refusals are set's.
+    pub fn plan(&self, animal: u64, permission: u32, issued: u64, now: u64) -> Result<Plan, Refusal> {
+        planned(reads!(self, boughladder_plan, animal, permission, issued, now))
+    }
+
+    /// One whole move of a plan, in 4 stores. It is made exactly if both slots lie in the run, the source word is
+    /// neither free nor damaged and has the planned tag, the destination word is 0, and the destination lies in the
+    /// entry's other bucket; also where the animal is held by now. Else it is [`Refusal::NotAsPlanned`]. On a table
+    /// that finished calls have made no read changes by it.
+    ///
+    /// The animal and what follows are set's. So are the refusals that come first, in this order:
+    /// [`Refusal::BadShape`], [`Refusal::NoAnimal`], [`Refusal::BadTime`], [`Refusal::Busy`], [`Refusal::Damaged`].
+    pub fn step_move(
+        &mut self,
+        planned: Move,
+        animal: u64,
+        permission: u32,
+        issued: u64,
+        now: u64,
+    ) -> Result<(), Refusal> {
+        let planned = ffi::Move { from: planned.from, tag: planned.tag, to: planned.to };
+        done(writes!(self, boughladder_step_move, planned, animal, permission, issued, now), ())
+    }
+
+    /// The final store, in 7 stores: the animal into that place and slot, with the stamp issued. It is made exactly if
+    /// the animal is absent, place and slot lie in their runs, the place is vacant, the slot is free and lies in one of
+    /// the animal's two buckets. Else it is [`Refusal::NotAsPlanned`]. On a table that finished calls have made only
+    /// her own read changes by it.
+    ///
+    /// The refusals that come first are those of [`Table::step_move`].
+    pub fn step_enter(
+        &mut self,
+        place: usize,
+        slot: usize,
+        animal: u64,
+        permission: u32,
+        issued: u64,
+        now: u64,
+    ) -> Result<(), Refusal> {
+        done(writes!(self, boughladder_step_enter, place, slot, animal, permission, issued, now), ())
     }
 
     /// Takes the animal's entry away.

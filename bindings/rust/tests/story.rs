@@ -1,4 +1,5 @@
-// The order's examples, samples/network-drop.calls with its answers, and the cabinet of samples/retired.calls.
+// The order's examples, samples/network-drop.calls with its answers, the cabinet of samples/retired.calls, and sets in
+// steps.
 // bindings/python/test_story.py tells the same.
 use boughladder::*;
 
@@ -895,6 +896,309 @@ fn judgements() {
     assert_eq!(twin.to_string(), "condition 6 at 2: two places hold the same animal");
 }
 
+// N = 4: buckets 0, 1 and 3 are full, and 2 is empty. 17, of buckets 0 and 1, needs two moves.
+const CROWD: [u64; 12] = [1, 5, 9, 13, 12, 16, 20, 24, 2, 6, 10, 14];
+// N = 16: 625 needs four.
+const LARGE_CROWD: [u64; 20] =
+    [58, 186, 353, 512, 31, 63, 159, 239, 368, 69, 286, 414, 464, 100, 180, 371, 593, 119, 215, 344];
+
+// A table that holds them.
+fn crowded<'a>(memory: &'a mut Memory, animals: &[u64]) -> Table<'a> {
+    let mut table = memory.table();
+    table.fresh().unwrap();
+    for animal in animals {
+        table.set(*animal, 1, 100, 100).unwrap();
+    }
+    table
+}
+
+// The moves of a plan as numbers.
+fn numbers(plan: &Plan) -> Vec<(usize, u32, usize)> {
+    plan.moves().iter().map(|planned| (planned.from, planned.tag, planned.to)).collect()
+}
+
+// Plan, which changes no word.
+fn plan(table: &Table, animal: u64) -> Result<Plan, Refusal> {
+    let before = words(table);
+    let said = table.plan(animal, 2, 100, 130);
+    assert_eq!(words(table), before);
+    said
+}
+
+// A move for 17. Where it is made, two slots and one counter change, by 2; where not, nothing does.
+fn step_move(table: &mut Table, from: usize, tag: u32, to: usize) -> Result<(), Refusal> {
+    let mut then = words(table);
+    let said = table.step_move(Move { from, tag, to }, 17, 2, 100, 130);
+    if said.is_ok() {
+        then.0[to] = std::mem::take(&mut then.0[from]);
+        let n = (0..then.1.len()).find(|n| table.counters[*n] != then.1[*n]).unwrap();
+        then.1[n] += 2;
+    }
+    assert_eq!(words(table), then);
+    said
+}
+
+// The final store of an animal. Where it is made, one place, a slot and a counter change; where not, nothing does.
+fn step_enter(table: &mut Table, place: usize, slot: usize, animal: u64) -> Result<(), Refusal> {
+    let mut then = words(table);
+    let said = table.step_enter(place, slot, animal, 2, 100, 130);
+    if said.is_ok() {
+        then.0[slot] = table.slots[slot];
+        let n = (0..then.1.len()).find(|n| table.counters[*n] != then.1[*n]).unwrap();
+        then.1[n] += 2;
+        then.2[4 * place..4 * place + 4].copy_from_slice(&[animal, 2, 100, 1]);
+        assert_eq!(table.slots[slot] as usize % 65536, place);
+    }
+    assert_eq!(words(table), then);
+    said
+}
+
+#[test]
+fn a_set_in_steps() {
+    let mut memory = lent(slots(4), 4, items(14));
+    let mut table = crowded(&mut memory, &CROWD);
+    let said = plan(&table, 17).unwrap();
+    // 6, with tag 225, goes from slot 13 to 8, then 1, with tag 62, from 0 to 13.
+    assert_eq!((numbers(&said), said.place, said.slot), (vec![(13, 225, 8), (0, 62, 13)], 12, 0));
+    assert_eq!(said.moves()[1], Move { from: 0, tag: 62, to: 13 });
+
+    // Between the steps 6 is served, 20 leaves and 3 comes. A move changes no answer, nor does the final store.
+    let here = [1, 5, 6, 9, 10, 14];
+    let answers = |table: &Table| here.map(|animal| table.read(animal, 720, 130));
+    let before = answers(&table);
+    assert_eq!(table.serve(6, 720, 130), fresh(1, 690));
+    assert_eq!(table.step_move(said.moves()[0], 17, 2, 100, 130), Ok(()));
+    assert_eq!((answers(&table), judged(&table)), (before, None));
+    assert_eq!(table.serve(6, 720, 130), fresh(1, 690));
+    assert_eq!(table.delete(20), Ok(()));
+    assert_eq!(table.set(3, 1, 100, 130), stored(1, 0));
+    assert_eq!(table.step_move(said.moves()[1], 17, 2, 100, 130), Ok(()));
+    assert_eq!((answers(&table), judged(&table)), (before, None));
+    assert_eq!(table.serve(17, 720, 130), Ok(Reading::Absent));
+    // 12 leaves place 4, and that is the lowest vacant one; 17 gets the planned one. What the step says is stored.
+    assert_eq!(table.delete(12), Ok(()));
+    assert_eq!(table.step_enter(said.place, said.slot, 17, u32::MAX, 120, 131), Ok(()));
+    assert_eq!((answers(&table), judged(&table)), (before, None));
+    assert_eq!(table.find(17), Ok(Some(12)));
+    assert_eq!(table.serve(17, 720, 131), fresh(u32::MAX, 709));
+    assert_eq!(table.items[48..52], [17, u64::from(u32::MAX), 120, 1]);
+}
+
+#[test]
+fn steps_leave_what_a_set_leaves() {
+    let one = [358, 687, 1012, 1334, 248, 734, 913, 1710];
+    let shapes: [(usize, usize, &[u64], u64, usize); 5] = [
+        (4, 4, &CROWD[..3], 17, 0),
+        (4, 4, &one, 5, 1),
+        (4, 1, &CROWD, 17, 2),
+        (16, 8, &LARGE_CROWD[..19], 625, 3),
+        (16, 8, &LARGE_CROWD, 625, 4),
+    ];
+    for (n, v, herd, animal, moves) in shapes {
+        let (mut memory, mut other) = (lent(slots(n), v, items(22)), lent(slots(n), v, items(22)));
+        let (mut table, mut set) = (crowded(&mut memory, herd), crowded(&mut other, herd));
+        let said = plan(&table, animal).unwrap();
+        assert_eq!((said.moves().len(), said.place), (moves, herd.len()));
+        assert_eq!(set.set(animal, 7, 110, 130).unwrap().moves, moves);
+        for planned in said.moves() {
+            assert_eq!(table.step_move(*planned, animal, 7, 110, 130), Ok(()));
+            assert_eq!(judged(&table), None);
+        }
+        assert_eq!(table.step_enter(said.place, said.slot, animal, 7, 110, 130), Ok(()));
+        assert_eq!(words(&table), words(&set));
+    }
+    // The four moves, by number.
+    let mut memory = lent(slots(16), 8, items(22));
+    let said = plan(&crowded(&mut memory, &LARGE_CROWD), 625).unwrap();
+    assert_eq!(numbers(&said), [(9, 173, 12), (6, 247, 9), (3, 189, 6), (63, 51, 3)]);
+    assert_eq!((said.moves().len(), said.place, said.slot), (MOST_MOVES, 20, 63));
+}
+
+#[test]
+fn a_stale_step() {
+    let mut memory = lent(slots(4), 4, items(13));
+    let mut table = crowded(&mut memory, &CROWD);
+    let old = plan(&table, 17).unwrap();
+    // 6 leaves, so nobody is there to be moved; a new plan wants one move less.
+    table.delete(6).unwrap();
+    assert_eq!(step_move(&mut table, 13, 225, 8), Err(Refusal::NotAsPlanned));
+    let new = plan(&table, 17).unwrap();
+    assert_eq!((numbers(&new), new.place, new.slot), (vec![(0, 62, 13)], 9, 0));
+    assert_eq!(step_move(&mut table, 0, 62, 13), Ok(()));
+    // Made once, it can't be made again.
+    assert_eq!(step_move(&mut table, 0, 62, 13), Err(Refusal::NotAsPlanned));
+    // Another one takes the planned place: she is entered into the next.
+    table.set(6, 1, 100, 130).unwrap();
+    assert_eq!(step_enter(&mut table, new.place, new.slot, 17), Err(Refusal::NotAsPlanned));
+    assert_eq!(step_enter(&mut table, old.place, old.slot, 17), Ok(()));
+    // And only once. A move is made where she is held, too; but who is held can't be planned for, only set.
+    assert_eq!(step_enter(&mut table, new.place, new.slot, 17), Err(Refusal::NotAsPlanned));
+    assert_eq!(plan(&table, 17), Err(Refusal::NotAsPlanned));
+    table.delete(5).unwrap();
+    assert_eq!(step_move(&mut table, 13, 62, 1), Ok(()));
+    assert_eq!(table.set(17, 1, 120, 130), stored(0, 0));
+    assert_eq!(judged(&table), None);
+
+    // A set takes the slot that was the last to be freed.
+    let mut memory = lent(slots(4), 4, items(14));
+    let mut table = crowded(&mut memory, &CROWD);
+    let old = plan(&table, 17).unwrap();
+    for planned in old.moves() {
+        assert_eq!(step_move(&mut table, planned.from, planned.tag, planned.to), Ok(()));
+    }
+    assert_eq!(table.set(21, 1, 100, 130), stored(1, 0));
+    assert_eq!(step_enter(&mut table, 13, old.slot, 17), Err(Refusal::NotAsPlanned));
+    let new = plan(&table, 17).unwrap();
+    for planned in new.moves() {
+        assert_eq!(step_move(&mut table, planned.from, planned.tag, planned.to), Ok(()));
+    }
+    assert_eq!(step_enter(&mut table, new.place, new.slot, 17), Ok(()));
+    assert_eq!((table.find(21), table.find(17)), (Ok(Some(12)), Ok(Some(13))));
+    assert_eq!(judged(&table), None);
+}
+
+#[test]
+fn a_move_not_as_planned() {
+    const WRONG: Result<(), Refusal> = Err(Refusal::NotAsPlanned);
+    let mut memory = lent(slots(4), 4, items(14));
+    let mut table = crowded(&mut memory, &CROWD);
+    // Slots that are not there. Some would be if they were cut to 32 bits.
+    for beyond in [16, 1 << 8, 1 << 32, 1 << 63, usize::MAX - 15] {
+        assert_eq!(step_move(&mut table, beyond, 225, 8), WRONG);
+        assert_eq!(step_move(&mut table, beyond + 13, 225, 8), WRONG);
+        assert_eq!(step_move(&mut table, 13, 225, beyond), WRONG);
+        assert_eq!(step_move(&mut table, 13, 225, beyond + 8), WRONG);
+    }
+    // Another tag. Most have bucket 2 as well; some would be 225 if they were cut to 8 or 16 bits.
+    for tag in [0, 1, 224, 226, 227, 225 + 256, 225 + 65536, 225 << 16, u32::MAX] {
+        assert_eq!(step_move(&mut table, 13, tag, 8), WRONG);
+    }
+    // The source is free: its tag would be 0. Slot 14 is free too, and in the other bucket of each of these tags.
+    table.delete(10).unwrap();
+    for tag in [0, 225, 62] {
+        assert_eq!(step_move(&mut table, 9, tag, 14), WRONG);
+    }
+    // The source is damaged: tag 0, tag 256, a place that is not there.
+    let word = table.slots[13];
+    for (damaged, tag) in [(9, 0), (256 * 65536 + 9, 256), (225 * 65536 + 14, 225), (u32::MAX, 65535)] {
+        table.slots[13] = damaged;
+        assert_eq!(step_move(&mut table, 13, tag, 8), WRONG);
+        assert_eq!(step_move(&mut table, 13, 225, 8), WRONG);
+    }
+    table.slots[13] = word;
+    // The destination is taken, by whatever word.
+    for taken in [word, 65536, 7, u32::MAX] {
+        table.slots[8] = taken;
+        assert_eq!(step_move(&mut table, 13, 225, 8), WRONG);
+    }
+    table.slots[8] = 0;
+    // The destination is in another bucket, or in its own, or is the source.
+    table.delete(9).unwrap();
+    table.delete(16).unwrap();
+    for to in [2, 5, 14, 13] {
+        assert_eq!(step_move(&mut table, 13, 225, to), WRONG);
+    }
+    // Any slot of the other bucket will do, there and back.
+    for to in 8..12 {
+        assert_eq!(step_move(&mut table, 13, 225, to), Ok(()));
+        assert_eq!(step_move(&mut table, to, 225, 14), Ok(()));
+        assert_eq!(step_move(&mut table, 14, 225, to), Ok(()));
+        assert_eq!(step_move(&mut table, to, 225, 13), Ok(()));
+    }
+    assert_eq!(judged(&table), None);
+}
+
+#[test]
+fn a_final_store_not_as_planned() {
+    const WRONG: Result<(), Refusal> = Err(Refusal::NotAsPlanned);
+    let mut memory = lent(slots(4), 4, items(14));
+    let mut table = crowded(&mut memory, &CROWD);
+    step_move(&mut table, 13, 225, 8).unwrap();
+    step_move(&mut table, 0, 62, 13).unwrap();
+    // 1 is held, and slot 0 is in her bucket.
+    assert_eq!(step_enter(&mut table, 12, 0, 1), WRONG);
+    // A place that is not there; some would be if they were cut, or their first word's number were. Or it is taken.
+    for place in [14, 12 + (1 << 16), 12 + (1 << 32), 12 + (1 << 62), 12 + (1 << 63), usize::MAX, 0, 9, 11] {
+        assert_eq!(step_enter(&mut table, place, 0, 17), WRONG);
+    }
+    // A slot that is not there, is taken, or is in another bucket.
+    for slot in [16, 1 << 32, 1 << 63, usize::MAX, 1, 4, 7, 8, 9, 11, 13] {
+        assert_eq!(step_enter(&mut table, 12, slot, 17), WRONG);
+    }
+    assert_eq!(judged(&table), None);
+    // Any vacant place will do, whatever is left in its other words; and any free slot of both buckets.
+    table.delete(16).unwrap();
+    for (place, slot) in [(12, 0), (13, 0), (5, 0), (12, 5), (13, 5), (5, 5)] {
+        table.items[4 * place + 1..4 * place + 4].copy_from_slice(&[u64::MAX, 7, 7]);
+        assert_eq!(step_enter(&mut table, place, slot, 17), Ok(()));
+        assert_eq!(table.read(17, 720, 130), fresh(2, 690));
+        assert_eq!(judged(&table), None);
+        table.delete(17).unwrap();
+    }
+}
+
+#[test]
+fn plan_refuses() {
+    let mut memory = lent(slots(4), 4, items(12));
+    let table = crowded(&mut memory, &CROWD);
+    // Who is held: by the same minute, by a later list, by a late one, and where she is retired. 12 comes before 5.
+    for stamp in [100, 0, 130, RETIRED_MARK] {
+        table.items[2] = stamp;
+        assert_eq!(plan(&table, 1), Err(Refusal::NotAsPlanned));
+    }
+    assert_eq!(plan(&table, 17), Err(Refusal::NoPlace));
+    let mut memory = lent(slots(2), 1, items(9));
+    let mut table = crowded(&mut memory, &[1, 2, 3, 4, 5, 6, 7, 8]);
+    assert_eq!(plan(&table, 9), Err(Refusal::NoRoom));
+    assert_eq!(table.set(9, 2, 100, 130), Err(Refusal::NoRoom));
+    // A damaged word beside the free slot that the search finds.
+    let mut memory = lent(slots(4), 4, items(14));
+    let mut crowd = crowded(&mut memory, &CROWD);
+    crowd.slots[11] = 7;
+    assert_eq!(plan(&crowd, 17), Err(Refusal::Damaged));
+    assert_eq!(refused(&mut crowd, 17, 100, 130), Refusal::Damaged);
+    // With a free slot in a home bucket no move is wanted.
+    table.delete(4).unwrap();
+    let said = plan(&table, 9).unwrap();
+    assert_eq!((said.moves(), said.place), (&[][..], 3));
+}
+
+#[test]
+fn steps_refuse_in_turn() {
+    // One place and two buckets: every slot is a home, and the table is full.
+    let mut memory = lent(slots(2), 1, items(1));
+    let mut table = crowded(&mut memory, &[7]);
+    let free = table.slots.iter().position(|word| *word == 0).unwrap();
+    // All reasons at once, and one after the other is taken away.
+    let says = |table: &mut Table, animal, issued, now| {
+        let before = words(table);
+        let none = Move { from: usize::MAX, tag: u32::MAX, to: usize::MAX };
+        let said = [
+            table.plan(animal, 2, issued, now).map(|_| ()),
+            table.step_move(none, animal, 2, issued, now),
+            table.step_enter(usize::MAX, usize::MAX, animal, 2, issued, now),
+        ];
+        assert_eq!(words(table), before);
+        said.map(Result::unwrap_err)
+    };
+    for animal in [7, 8] {
+        table.slots[free] = 65537;
+        table.counters[0] = 3;
+        let mut short = Table { slots: table.slots, counters: table.counters, items: &mut table.items[..3] };
+        assert_eq!(says(&mut short, 0, 131, 130), [Refusal::BadShape; 3]);
+        assert_eq!(says(&mut table, 0, 131, 130), [Refusal::NoAnimal; 3]);
+        assert_eq!(says(&mut table, animal, 131, 130), [Refusal::BadTime; 3]);
+        assert_eq!(says(&mut table, animal, 130, NO_MINUTE), [Refusal::BadTime; 3]);
+        assert_eq!(says(&mut table, animal, 130, 130), [Refusal::Busy; 3]);
+        table.counters[0] = 4;
+        assert_eq!(says(&mut table, animal, 130, 130), [Refusal::Damaged; 3]);
+        table.slots[free] = 0;
+        let planned = if animal == 7 { Refusal::NotAsPlanned } else { Refusal::NoPlace };
+        let last = [planned, Refusal::NotAsPlanned, Refusal::NotAsPlanned];
+        assert_eq!(says(&mut table, animal, 130, 130), last);
+    }
+}
+
 #[test]
 fn lanes() {
     let by = |permission| lane(fresh(permission, 0));
@@ -909,12 +1213,15 @@ fn lanes() {
 
 #[test]
 fn refusals() {
-    for number in 1..=11 {
+    for number in 1..=12 {
         assert_eq!(Refusal::from_number(number).number(), number);
         assert_ne!(Refusal::from_number(number), Refusal::Unknown(number));
     }
     assert_eq!(Refusal::from_number(11), Refusal::Late);
-    assert_eq!(Refusal::from_number(12), Refusal::Unknown(12));
+    assert_eq!(Refusal::from_number(12), Refusal::NotAsPlanned);
+    assert_eq!(Refusal::from_number(13), Refusal::Unknown(13));
     assert_eq!(Refusal::Busy.to_string(), "busy: a write was cut off");
     assert_eq!(Refusal::Late.to_string(), "late: a permission that was issued later is held");
+    let text = "the animal to plan for is held, or a step can't be made as planned";
+    assert_eq!(Refusal::NotAsPlanned.to_string(), text);
 }

@@ -24,15 +24,18 @@ static void put(const void *bytes, size_t size, size_t count) {
 
 /* One call, marked, its answer and every word after it. The buffer of the list is garbage before each call. */
 static void make(const char *op, const uint64_t *n) {
-    uint64_t a[4] = {0, 0, 0, 0};
+    uint64_t a[16] = {0};
     BoughladderReading r = {0, 0, 0, 0};
     BoughladderFinding f = {0, 0, 0};
     BoughladderSetting t = {0, 0, 0};
+    BoughladderPlan p;
+    BoughladderMove m = {n[0], (uint32_t)n[1], n[2]};
     BoughladderEvicting e = {0, 0, 0, 0};
     BoughladderListing l = {0, 0};
     BoughladderJudgement j = {0, 0};
     uint32_t d = 0;
     memset(buffer, 0xa5, sizeof buffer);
+    memset(&p, 0, sizeof p);
     if (!strcmp(op, "fresh")) MARKED(d = boughladder_fresh(LENT));
     else if (!strcmp(op, "read")) MARKED(r = boughladder_read(LENT, n[0], n[1], n[2]));
     else if (!strcmp(op, "plain_read")) MARKED(r = boughladder_plain_read(items, i, n[0], n[1], n[2]));
@@ -40,6 +43,10 @@ static void make(const char *op, const uint64_t *n) {
     else if (!strcmp(op, "find")) MARKED(f = boughladder_find(LENT, n[0]));
     else if (!strcmp(op, "set")) MARKED(t = boughladder_set(LENT, n[0], (uint32_t)n[1], n[2], n[3]));
     else if (!strcmp(op, "set_cut")) MARKED(t = boughladder_set_cut(LENT, n[0], (uint32_t)n[1], n[2], n[3], n[4]));
+    else if (!strcmp(op, "plan")) MARKED(p = boughladder_plan(LENT, n[0], (uint32_t)n[1], n[2], n[3]));
+    else if (!strcmp(op, "step_move")) MARKED(d = boughladder_step_move(LENT, m, n[3], (uint32_t)n[4], n[5], n[6]));
+    else if (!strcmp(op, "step_enter"))
+        MARKED(d = boughladder_step_enter(LENT, n[0], n[1], n[2], (uint32_t)n[3], n[4], n[5]));
     else if (!strcmp(op, "delete")) MARKED(d = boughladder_delete(LENT, n[0]));
     else if (!strcmp(op, "delete_cut")) MARKED(d = boughladder_delete_cut(LENT, n[0], n[1]));
     else if (!strcmp(op, "evict")) MARKED(e = boughladder_evict(LENT, n[0]));
@@ -48,18 +55,20 @@ static void make(const char *op, const uint64_t *n) {
     else if (!strcmp(op, "judge")) MARKED(j = boughladder_judge(LENT));
     else exit(2);
     /* Only one of the replies is not 0. */
-    a[0] = (uint64_t)d + r.refusal + f.refusal + t.refusal + e.refusal + l.refusal;
-    a[1] = r.kind + f.kind + t.visits + e.victim + l.count + j.condition;
-    a[2] = r.permission + f.place + t.moves + e.looked + j.at;
-    a[3] = (uint64_t)r.left + e.hand;
-    put(a, 8, 4), put(slots, 4, 64), put(counters, 4, 8), put(items, 8, 256), put(buffer, 1, 64);
+    a[0] = (uint64_t)d + r.refusal + f.refusal + t.refusal + p.refusal + e.refusal + l.refusal;
+    a[1] = r.kind + f.kind + t.visits + p.count + e.victim + l.count + j.condition;
+    a[2] = r.permission + f.place + t.moves + p.place + e.looked + j.at;
+    a[3] = (uint64_t)r.left + p.slot + e.hand;
+    for (int k = 0; k < 4; k++)
+        a[4 + 3 * k] = p.moves[k].from, a[5 + 3 * k] = p.moves[k].tag, a[6 + 3 * k] = p.moves[k].to;
+    put(a, 8, 16), put(slots, 4, 64), put(counters, 4, 8), put(items, 8, 256), put(buffer, 1, 64);
 }
 
 /* The numbers of a line; returns how many. */
 static int numbers(const char *line, uint64_t *n) {
     int count = 0;
     char *end;
-    for (; count < 5; count++, line = end) {
+    for (; count < 7; count++, line = end) {
         n[count] = strtoull(line, &end, 10);
         if (end == line) break;
     }
@@ -81,7 +90,7 @@ static void cuts(const char *op, uint64_t stores, uint64_t *n, int count) {
 }
 
 int main(int words, char **word) {
-    uint64_t n[6], stack = (uint64_t)(uintptr_t)&n;
+    uint64_t n[8] = {0}, stack = (uint64_t)(uintptr_t)&n;
     char line[256], op[32];
     int at;
     FILE *file = words == 2 ? fopen(word[1], "r") : NULL;

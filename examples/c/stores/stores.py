@@ -5,7 +5,8 @@
     stores.py find N V MOVES SEED       looks for a herd whose last animal needs so many moves, and prints its calls
 
 The order of a call comes from the trace, its answer and the words after it from MEMORY. With the cut forms at every k
-the words are compared after each prefix, so each value is tied to its position. For fresh and list any order will do.
+the words are compared after each prefix, so each value is tied to its position; plan's steps have no cut form, and of
+them only the words at the end are compared. For fresh and list any order will do.
 """
 import copy
 import random
@@ -101,7 +102,7 @@ def hit(t, animal):
     return None
 
 
-# ---- The calls: each answers with its four numbers, refusal first ---------
+# ---- The calls: each answers with its four numbers, refusal first; plan with its moves behind them ----
 
 def check_asked(animal, limit, now):
     if animal == 0:
@@ -173,36 +174,84 @@ def move(t, source, destination):
     t.count(counter)
 
 
-def set_(t, animal, permission, issued, now):
+def enter(t, place, slot, animal, permission, issued):
+    tag, first = tag_and_first(t, animal)
+    counter = counter_of(t, first, tag)
+    t.count(counter)
+    for n, part in enumerate([animal, permission, issued, 1]):
+        t.put('items', 4 * place + n, part)
+    t.put('slots', slot, tag * 65536 + place)
+    t.count(counter)
+
+
+def check_given(animal, issued, now):
     if animal == 0:
         raise Refusal(2)
     if now == NO_MINUTE or issued > now:
         raise Refusal(3)
-    slot = hit(t, animal)
-    tag, first, _ = homes(t, animal)
-    counter = counter_of(t, first, tag)
-    parts = [animal, permission, issued, 1]
-    if slot is not None:
-        place = t.word['slots'][slot] % 65536
-        if issued < t.item(place, 2) < RETIRED_MARK:
-            raise Refusal(11)
-        t.count(counter)
-        for n in (1, 2, 3):
-            t.put('items', 4 * place + n, parts[n])
-        t.count(counter)
-        return 0, 0, 0, 0
+
+
+def room(t, animal):
+    """For an absent animal: the lowest vacant place, and what the search finds."""
     vacant = [place for place in range(t.places) if t.item(place, 0) == 0]
     if not vacant:
         raise Refusal(5)
-    way, visits = search(t, tag, first)
+    tag, first = tag_and_first(t, animal)
+    return (vacant[0],) + search(t, tag, first)
+
+
+def set_(t, animal, permission, issued, now):
+    check_given(animal, issued, now)
+    slot = hit(t, animal)
+    if slot is not None:
+        tag, first = tag_and_first(t, animal)
+        place = t.word['slots'][slot] % 65536
+        if issued < t.item(place, 2) < RETIRED_MARK:
+            raise Refusal(11)
+        t.count(counter_of(t, first, tag))
+        for n, part in enumerate([permission, issued, 1], 1):
+            t.put('items', 4 * place + n, part)
+        t.count(counter_of(t, first, tag))
+        return 0, 0, 0, 0
+    place, way, visits = room(t, animal)
     for n in reversed(range(len(way) - 1)):
         move(t, way[n], way[n + 1])
-    t.count(counter)
-    for n in (0, 1, 2, 3):
-        t.put('items', 4 * vacant[0] + n, parts[n])
-    t.put('slots', way[0], tag * 65536 + vacant[0])
-    t.count(counter)
+    enter(t, place, way[0], animal, permission, issued)
     return 0, visits, len(way) - 1, 0
+
+
+def plan(t, animal, permission, issued, now):
+    check_given(animal, issued, now)
+    if hit(t, animal) is not None:
+        raise Refusal(12)
+    place, way, _ = room(t, animal)
+    moves = [(way[n], t.word['slots'][way[n]] // 65536, way[n + 1]) for n in reversed(range(len(way) - 1))]
+    return (0, len(moves), place, way[0]) + tuple(number for record in moves for number in record)
+
+
+def step_move(t, source, tag, destination, animal, permission, issued, now):
+    check_given(animal, issued, now)
+    homes(t, animal)
+    if max(source, destination) >= t.length['slots']:
+        raise Refusal(12)
+    word = t.word['slots'][source]
+    if word == 0 or t.damaged(source) or word // 65536 != tag:
+        raise Refusal(12)
+    if t.word['slots'][destination] != 0 or destination // 4 != other(t, source // 4, tag):
+        raise Refusal(12)
+    move(t, source, destination)
+    return 0, 0, 0, 0
+
+
+def step_enter(t, place, slot, animal, permission, issued, now):
+    check_given(animal, issued, now)
+    held, (_, _, slots) = hit(t, animal), homes(t, animal)
+    if held is not None or place >= t.places or t.item(place, 0) != 0:
+        raise Refusal(12)
+    if slot not in slots or t.word['slots'][slot] != 0:
+        raise Refusal(12)
+    enter(t, place, slot, animal, permission, issued)
+    return 0, 0, 0, 0
 
 
 def take_away(t, slot, place, counter):
@@ -292,7 +341,8 @@ def fresh(t):
 
 
 CALLS = {'fresh': fresh, 'read': read, 'plain_read': plain_read, 'serve': serve, 'find': find, 'set': set_,
-         'delete': delete, 'evict': evict, 'list': list_, 'judge': judge}
+         'plan': plan, 'step_move': step_move, 'step_enter': step_enter, 'delete': delete, 'evict': evict,
+         'list': list_, 'judge': judge}
 
 
 def call(t, op, numbers):
@@ -314,6 +364,12 @@ def call(t, op, numbers):
 
 
 # ---- The comparison -------------------------------------------------------
+
+# Plan and the steps: 0, and every refusal that they have; and how many numbers a step has before its animal.
+STEPS = {'plan': (0, 1, 2, 3, 8, 4, 12, 5, 6), 'step_move': (0, 1, 2, 3, 8, 4, 12),
+         'step_enter': (0, 1, 2, 3, 8, 4, 12)}
+BEHIND = {'step_move': 3, 'step_enter': 2}
+
 
 def steps(path):
     """The lines of the scenarios: the scenario's name, the first word, the numbers, and whether it is one of the cuts.
@@ -389,7 +445,8 @@ def first_difference(found, wanted):
 def faults(seen, table, op, answer):
     """Where the next call that was seen isn't as the one that was made on the table; and its joined stores."""
     said = []
-    found_answer, found_words = tuple(seen.numbers('Q', 4)), seen.words()
+    found_answer, found_words = tuple(seen.numbers('Q', 16)), seen.words()
+    answer += (0,) * (16 - len(answer))
     if found_answer != answer:
         said.append('answers %s, by the document %s' % (found_answer, answer))
     found, joined = seen.stores()
@@ -406,7 +463,7 @@ def faults(seen, table, op, answer):
 
 def compare(scenarios, memory, trace):
     seen, table, wrong, report = Watched(memory, trace), None, 0, {}
-    refusals, moves, made, conditions, retired = set(), set(), set(), set(), set()
+    refusals, moves, made, conditions, retired, steps_said = set(), set(), set(), set(), set(), set()
     for name, op, numbers, cuts in steps(scenarios):
         if op == 'lend':
             table = Table(numbers)
@@ -427,10 +484,15 @@ def compare(scenarios, memory, trace):
             line[0], line[1], line[2] = line[0] + 1, line[1] + len(after.stores), line[2] + joined
             refusals.add(answer[0])
             made.add((op, answer[0] == 0))
-            if answer[0] == 0 and (answer[1] if op in ('evict', 'evict_cut') else (numbers + [0])[0]) in marked:
+            animal = answer[1] if op in ('evict', 'evict_cut') else (numbers + [0])[BEHIND.get(op, 0)]
+            if answer[0] == 0 and animal in marked:
                 retired.add(op)
             if op in ('set', 'set_cut') and answer[1] > 0:
                 moves.add((op, answer[2]))
+            if op in STEPS:
+                steps_said.add((op, answer[0]))
+            if op == 'plan' and answer[0] == 0:
+                moves.add((op, answer[1]))
             if op == 'judge':
                 conditions.add(answer[1])
     for name, line in report.items():
@@ -439,11 +501,13 @@ def compare(scenarios, memory, trace):
         wrong += 1
         print('the program made more calls than the scenarios have')
     # The scenarios reach every number of moves, every refusal but 10 and every condition; each writing call is made and
-    # refused; each call of an animal is made where she is retired.
+    # refused; plan and the steps with each refusal that they have; each call of an animal is made where she is retired,
+    # but not plan and the final store, for then she is held.
     writing = ['fresh', 'serve', 'set', 'set_cut', 'delete', 'delete_cut', 'evict', 'evict_cut']
     missed = {(op, success) for op in writing for success in (True, False)} - made
-    missed |= {(op, 'retired') for op in writing[1:] + ['read', 'plain_read', 'find'] if op not in retired}
-    if len(moves) != 2 * 5 or refusals != {*range(10), 11} or conditions != {*range(9)} or missed:
+    missed |= {(op, 'retired') for op in writing[1:] + ['read', 'plain_read', 'find', 'step_move'] if op not in retired}
+    missed |= {(op, refusal) for op in STEPS for refusal in STEPS[op]} ^ steps_said
+    if len(moves) != 3 * 5 or refusals != {*range(10), 11, 12} or conditions != {*range(9)} or missed:
         wrong += 1
         print('the scenarios reach only moves %s, refusals %s, conditions %s, and not %s' %
               (sorted(moves), refusals, conditions, missed))
