@@ -51,15 +51,16 @@
  * A set in steps, with any calls between. plan says what a set of an absent animal would do now: up to four moves in
  * the order of making, its place and the final slot. It changes nothing. Then boughladder_step_move makes one whole
  * move after the other, and boughladder_step_enter the final store; without calls between they leave what the set
- * leaves, word for word. Nothing is reserved, and nothing ties a step to its plan: each is judged by the words that it finds,
- * and is made exactly if
+ * leaves, word for word. Nothing is reserved, and nothing ties a step to its plan: each is judged by the words that it
+ * finds, and is made exactly if
  *   - a move: both slots lie in the run, the source word is neither free nor damaged and has the planned tag, the
  *     destination word is 0, and the destination lies in the entry's other bucket;
  *   - the final store: the animal is absent, place and slot lie in their runs, the place is vacant, the slot is free
  *     and lies in one of the animal's two buckets.
- * Else it is refusal 12 and no word changes: plan again, or set. No read changes by a move; by the final store only the
- * animal's own. Each step takes set's inputs, and 1, 2, 3, 8 and 4 come first, as in set of that animal. A held animal
- * can't be planned (12): an update has no steps, it is a set.
+ * Else it is refusal 12 and no word changes: plan again, or set. On a table by finished calls no read changes by a
+ * move, and by the final store only the animal's own. Each step takes set's inputs, and 1, 2, 3, 8 and 4 come first, as
+ * in set of that animal; a move takes them for nothing else, and does not ask whether the entry that it moves is busy.
+ * A held animal can't be planned (12): an update has no steps, it is a set.
  *
  * Standing permissions are retired: no set makes one. A table from before 4.0.0 may hold some, with UINT64_MAX as their
  * stamp. Such an entry is old at every minute and under every limit, overdue by as much as is ever told, so it opens no
