@@ -8,4 +8,4 @@ pub boughladder-step-enter-spec : {M : Type 1} → statement M
 boughladder-step-enter-spec =
     tie.close
     (tie.spec
-    (λ c κs. search needs) (λ c κs. search needs) (λ c. search needs) (λ c. search needs) (λ c. search needs) (λ c. search (told-whole, needs)))
+    (λ c κs. search needs) (λ c κs. search needs) (λ c. search needs) (λ c. search needs) (λ c. search needs) (λ c. search told-whole))

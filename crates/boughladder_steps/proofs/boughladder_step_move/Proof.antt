@@ -7,4 +7,4 @@ use Rattle.clothes.proofs.Dressed.{told-whole}
 pub boughladder-step-move-spec : {M : Type 1} → statement M
 boughladder-step-move-spec =
     tie.close
-    (tie.spec (λ c κs. search needs) (λ c κs. search needs) (λ c. search needs) (λ c. search needs) (λ c. search (told-whole, needs)))
+    (tie.spec (λ c κs. search needs) (λ c κs. search needs) (λ c. search needs) (λ c. search needs) (λ c. search told-whole))
