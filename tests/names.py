@@ -5,7 +5,8 @@
 
 A word in backticks must be a file, or a word of the code (comments and imports don't count). `c::f` must be in crate c,
 a name before "in `FILE`" must be declared in that file, and names behind "crate:" must be edits of that crate. What
-begins with boughladder must stand in the header, a link must lead somewhere, and HOUSE.md must have every crate.
+begins with boughladder must stand in the header or be a crate, a link must lead somewhere, and HOUSE.md must have every
+crate.
 """
 import pathlib
 import re
@@ -36,7 +37,8 @@ ALLOWED = {
                                   'serve_edge_off_by_one', 'refuted/proofs/Reached'},
     # edits that went in landing 05
     'docs/landings/00-workshop.md': {'lines_counted_by_two', 'no-row-told-as-understood'},
-    'docs/landings/02-plain-engine.md': {'no-row-told-as-understood'},
+    # the first: an edit that went in landing 05; the second went to vacancy in landing 07
+    'docs/landings/02-plain-engine.md': {'no-row-told-as-understood', 'setting/proofs/Looks'},
     'docs/landings/05-judge-a-dump.md': {'lines_counted_by_two', 'no-row-told-as-understood'},
     # what went in landing 06, told in the releases that had it and in the one that took it out
     'CHANGELOG.md': {'boughladder_table_set_standing', 'boughladder_table_set_standing_cut'},
@@ -136,7 +138,7 @@ def links(line, document):
 
 def header_names(line, allowed):
     for name in re.findall(r'\b(?:boughladder_|Boughladder|BOUGHLADDER_)\w+', line):
-        if name not in allowed and not re.search(r'\b%s' % name + ('' if name.endswith('_') else r'\b'), HEADER):
+        if name not in allowed and name not in CRATES and not re.search(r'\b%s' % name + ('' if name.endswith('_') else r'\b'), HEADER):
             yield name, 'not in the header'
 
 

@@ -118,10 +118,10 @@ dump-is-judged = refl
 
 -- a set in steps: a plan, its final store, a move that was in no plan; a tag that is right but for its 33rd bit, and who is held by now
 abbrev in-steps : List ℕ
-in-steps = bytes "fresh 8 1 8\nplan 1 5 2 3\nenter 0 0 1 5 2 3\nmove 0 62 4 7 5 2 3\nread 1 720 2\nmove 4 4294967358 0 7 5 2 3\nplan 1 5 2 3\nenter 1 0 1 5 2 3\nplan 7 1 3 3\nenter 1 18446744073709551615 7 1 3 3\nplan 7 4294967296 3 3\ndump"
+in-steps = bytes "fresh 8 1 8\nplan 1 5 2 3\nenter 0 0 1 5 2 3\nmove 0 62 4 7 5 2 3\nread 1 720 2\nmove 4 4294967358 0 7 5 2 3\nplan 1 5 2 3\nenter 1 0 1 5 2 3\nplan 7 1 3 3\nenter 1 18446744073709551615 7 1 3 3\nenter 1 0 7 1 3 3\nplan 8 4294967296 3 3\ndump"
 
 pub in-steps-answered : answers false in-steps
-    ≡ bytes "fresh\nplanned 0 0\nentered\nmoved\nfresh 5 720\nrefused 12\nrefused 12\nrefused 12\nplanned 1 0\nrefused 12\nline 11: not understood: number too large\nslots 0 0 0 0 4063232 0 0 0\ncounters 4\nitems 1 5 2 1 0 0 0 0\n"
+    ≡ bytes "fresh\nplanned 0 0\nentered\nmoved\nfresh 5 720\nrefused 12\nrefused 12\nrefused 12\nplanned 1 0\nrefused 12\nentered\nline 12: not understood: number too large\nslots 8585217 0 0 0 4063232 0 0 0\ncounters 6\nitems 1 5 2 1 7 1 3 1\n"
 unfolding may-move may-enter replayed reply-to loading load-of run-named weighed loads-run shown meaning starts asks calls cuts turns cut-turns hands lists pokes-slots pokes-counters pokes-items audits plain-read walk-to said said-by first-row fitting taken bound why-not furthest parting takes behind instead lines words pieces filled before same number number-from value all-digits without-comment without-return without-mark mark-length told numbered reason decimal-of signed-of digits record-lines hexes hex-of hex-digit hash fnv fnv-step low-bytes tag-from odd-up spread other-bucket tag place damaged range first good-lengths good-slots good-counters good-items hits hit vacant-place some-live visits next-level hops first-free free-slot lowest climb is-fresh left-of verdict next-hand seek-victim passed-recent slot-of list-record records live-count listing stores
 in-steps-answered = refl
 
