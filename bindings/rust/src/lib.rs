@@ -233,7 +233,7 @@ pub struct Move {
 pub struct Plan {
     /// The place for the final store.
     pub place: usize,
-    /// Its slot, which the last move leaves free.
+    /// Its slot: free now, or freed by the last move.
     pub slot: usize,
     count: usize,
     moves: [Move; MOST_MOVES],

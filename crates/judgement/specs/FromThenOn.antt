@@ -32,8 +32,9 @@ module _ (W : Ways) (T : Table) (m : Mem) where
   pub record FromThenOn (es : List Event) : Type 0 where
     -- the memory still gets a yes
     pub stays : judgement W (then es) ≡ sound
-    -- demand 2: the next call answers as the row would, save refusal 6 and the search counts; the item words are the row's; fresh is said
-    -- only of a held permission within the age limit; a cut shows busy, before or after; a held animal takes no search
+    -- demand 2: the next call answers as the row would, save refusal 6, a step's refusal 12, the search counts and the planned slots; the
+    -- item words are the row's; fresh is said only of a held permission within the age limit; a cut shows busy, before or after; a held
+    -- animal takes no search
     pub as-row : (e : Event) → AllTyped (e ∷ [])
         → plain (T .answer (then es) e) ≡ row-event (Y .places) (beyond (T .answer (then es) e)) (row-then es) e .answer
     pub same-words : then es .items ≡ row-then es

@@ -17,7 +17,7 @@ use Rattle.model.specs.Moves.{as-move, as-moves, records-of}
 use Rattle.model.specs.Calling.{plan-set, set-animal, step-enter, step-move}
 use Rattle.model.specs.Answers.{Answer, entry-made, move-made, planned, refused, stored}
 use Rattle.model.specs.Age.{bad-grant}
-use Rattle.model.specs.Calls.{Outcome, asked, busy, enter-at, enter-block, entered, final-slot, held, home-damage, may-enter, may-move, move-at, move-block, moves-found, plan-at, plan-new, refuse, search-damage, set-at, stopped, tell, vacant-place, visited}
+use Rattle.model.specs.Calls.{Outcome, asked, busy, enter-at, enter-block, entered, final-at, final-slot, held, home-damage, may-enter, may-move, move-at, move-block, moves-found, plan-at, plan-new, refuse, search-damage, set-at, stopped, tell, vacant-place, visited}
 use Rattle.model.specs.Lent.{lent-call}
 use Rattle.model.specs.Late.{ItsTurn}
 use Rattle.model.specs.Ours.{ours, traced}
@@ -25,7 +25,7 @@ use Rattle.model.specs.InSteps.{EnterMadeIff, MayEnter, MayMove, MoveMad
 use Rattle.model.specs.declared.Grant.{Grant}
 use Rattle.model.specs.declared.MoveRecord.{MoveRecord}
 use Rattle.model.proofs.ListLaws.{bool, true-false}
-use Rattle.model.proofs.Turns.{in-its-turn, in-turn, sorted, turned}
+use Rattle.model.proofs.Turns.{before-turn, in-its-turn, in-turn, sorted, turned}
 use Rattle.model.proofs.Records.{length-records, moves-back}
 use Rattle.model.proofs.Demand1.{is-refusal}
 use Rattle.model.proofs.Linked.{leaves-lent}
@@ -70,6 +70,10 @@ module _ (W : Ways) (m : Mem) (g : Grant) where
   abbrev x : ℕ
   x = g .animal
 
+  -- before its turn a call with set's inputs answers as set does
+  as-set : (rest : Outcome) → ¬ ItsTurn W m g → in-its-turn W m g rest .answer ≡ lent-call W m (set-animal g) .answer
+  as-set rest n = ap (λ (o : Outcome). o .answer) (before-turn W m g n rest (set-at Y m g (held Y m x)))
+
   module _ (v : MoveRecord) where
     abbrev moving : Outcome
     moving = record { answer = move-made; blocks = move-block Y (m .slots) (as-move v) ∷ [] }
@@ -88,6 +92,7 @@ module _ (W : Ways) (m : Mem) (g : Grant) where
         let yes = move-if Y (m .slots) v in
         let only = move-only Y (m .slots) v in
         record {
+          before-turn = as-set (move-at Y m v);
           iff = step-iff W m g b move-made moving refl refl (MayMove Y (m .slots) v) yes only;
           else-twelve = step-else W m g b move-made moving refl refl (MayMove Y (m .slots) v) yes only;
           slots-are = λ e. ap (λ (m : Mem). m .slots) (leaves-lent W m (step-move g v))
@@ -105,6 +110,7 @@ module _ (W : Ways) (m : Mem) (g : Grant) where
         let yes = enter-if Y m x p i in
         let only = enter-only Y m x p i in
         record {
+          before-turn = as-set (final-at Y m g p i);
           iff = step-iff W m g b entry-made entering refl refl (MayEnter Y m x p i) yes only;
           else-twelve = step-else W m g b entry-made entering refl refl (MayEnter Y m x p i) yes only;
           slots-are = λ e. ap (λ (m : Mem). m .slots) (leaves-lent W m (step-enter g p i))
@@ -243,6 +249,7 @@ module _ (W : Ways) (m : Mem) (g : Grant) where
   pub plan-is-sets : PlanIsSets W m g
   plan-is-sets =
       record {
+        before-turn = as-set W m g plan-rest;
         twelve = (
           λ e. let t = turned W m g plan-rest (λ k h f. let z : 12 ≡ k = cc in absurd (omega arith)) in
               (t .0, held-refused (held Z m y) (sym (ap (λ (o : Outcome). o .answer) (t .1)) ∙ e)),

@@ -20,7 +20,7 @@ use Rattle.model.specs.declared.Grant.{Grant}
 use Rattle.model.specs.AnyTable.{Table, leaves, cut-at, left, beside}
 
 -- Demand 1. Every call ends, on any numbers and any memory contents, and asks nothing of its caller: that is what a table is. A refusal
--- is one number of the list, document 01's or 11, and changes no word, whole or cut
+-- is one number of the list, document 01's, 11 or 12, and changes no word, whole or cut
 pub record Demand1 (T : Table) : Type 0 where
   pub listed : (m : Mem) (e : Event) (n : ℕ) → T .answer m e ≡ refused n → Listed n
   pub unchanged : (m : Mem) (e : Event) (n : ℕ) → T .answer m e ≡ refused n → leaves T m e ≡ m
@@ -139,8 +139,8 @@ module _ (W : Ways) where
   abbrev pub row : Table → Story → List ℕ
   row T s = beside T (places s) (s .memory) (s .memory .items) (make-fresh ∷ s .calls)
 
-  -- Demand 2, first half. After any run of finished calls from fresh, the next call answers as the row would, save refusal 6 and the
-  -- search counts
+  -- Demand 2, first half. After any run of finished calls from fresh, the next call answers as the row would, save refusal 6, a step's
+  -- refusal 12, the search counts and the planned slots
   abbrev pub AsRow : Table → Type 0
   AsRow T = (s : Story) (e : Event) → AllTyped (e ∷ [])
       → plain (T .answer (table T s) e) ≡ row-event (places s) (beyond (T .answer (table T s) e)) (row T s) e .answer

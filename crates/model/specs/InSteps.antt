@@ -1,5 +1,6 @@
 -- Wish 7: a set in steps, with other calls between. When a move and the final store are made, what a plan is beside a set, and what comes
--- of a plan that is carried out: over any table, and on any memory where no story is named. Assumes nothing.
+-- of a plan that is carried out: over any table, but for `PlanIsSets`, which is of ours, and on any memory where no story is named.
+-- Assumes nothing.
 use Prim.Native.Nat.{ℕ, _+_, _*_, _<_, _≤_}
 use mathlib.Core.Path.{_≡_}
 use mathlib.Core.Logic.{_≢_, _↔_}
@@ -43,11 +44,13 @@ module _ (Y : Shape) where
     pub free : word m i ≡ 0
     pub home : Home Y x (bucket Y i)
 
--- what is so of a step of table T on the memory m. Its turn comes where 1, 2, 3, 8 and 4 are not due
+-- what is so of a step of table T on the memory m. Its turn comes where 1, 2, 3, 8 and 4 are not due; before it, it answers as a set of
+-- the animal does
 module _ (W : Ways) (T : Table) (m : Mem) (g : Grant) where
   -- a move is made exactly if it may be; else, in its turn, it is 12. A move that is made takes the word along, and no item word changes
   module _ (v : MoveRecord) where
     pub record MoveMadeIff : Type 0 where
+      pub before-turn : ¬ ItsTurn W m g → T .answer m (did (step-move g v)) ≡ T .answer m (did (set-animal g))
       pub iff : (T .answer m (did (step-move g v)) ≡ move-made) ↔ (ItsTurn W m g × MayMove (shape-of W m) (m .slots) v)
       pub else-twelve : ItsTurn W m g → ¬ MayMove (shape-of W m) (m .slots) v → T .answer m (did (step-move g v)) ≡ refused 12
       pub slots-are : T .answer m (did (step-move g v)) ≡ move-made → leaves T m (did (step-move g v)) .slots ≡ moved (m .slots) (as-move v)
@@ -56,6 +59,7 @@ module _ (W : Ways) (T : Table) (m : Mem) (g : Grant) where
   -- and so is the final store: then the slot leads to the place, and the place is filled
   module _ (p i : ℕ) where
     pub record EnterMadeIff : Type 0 where
+      pub before-turn : ¬ ItsTurn W m g → T .answer m (did (step-enter g p i)) ≡ T .answer m (did (set-animal g))
       pub iff : (T .answer m (did (step-enter g p i)) ≡ entry-made) ↔ (ItsTurn W m g × MayEnter (shape-of W m) m (g .animal) p i)
       pub else-twelve : ItsTurn W m g → ¬ MayEnter (shape-of W m) m (g .animal) p i → T .answer m (did (step-enter g p i)) ≡ refused 12
       pub slots-are : T .answer m (did (step-enter g p i)) ≡ entry-made
@@ -63,8 +67,8 @@ module _ (W : Ways) (T : Table) (m : Mem) (g : Grant) where
       pub items-are : T .answer m (did (step-enter g p i)) ≡ entry-made
           → leaves T m (did (step-enter g p i)) .items ≡ fill (m .items) p (g .animal) (g .permission) (g .issued) 1
 
--- the rule of the steps, of any table: one that answers 12 to every step breaks it, and one that says of a move that it was made and
--- moves nothing
+-- the rule of the steps, of any table: one that answers 12 to every step breaks it, one that answers it too early, and one that says of
+-- a move that it was made and moves nothing
 pub record StepRule (W : Ways) (T : Table) : Type 0 where
   pub moves : (m : Mem) (g : Grant) (v : MoveRecord) → MoveMadeIff W T m g v
   pub enters : (m : Mem) (g : Grant) (p i : ℕ) → EnterMadeIff W T m g p i
@@ -86,8 +90,10 @@ module _ (W : Ways) (m : Mem) (g : Grant) where
         ≡ move-blocks (shape-of W m) (m .slots) (as-moves vs) ++ (enter-block (shape-of W m) g p i ∷ [])
     pub tags-are : vs ≡ records-of (m .slots) (as-moves vs)
 
-  -- any held animal is 12, in its turn. Of one that is not held both refuse alike, and where one plans the other stores
+  -- 1, 2, 3, 8 and 4 come first, as in set; then any held animal is 12. Of one that is not held both refuse alike, and where one plans the
+  -- other stores
   pub record PlanIsSets : Type 0 where
+    pub before-turn : ¬ ItsTurn W m g → plan-answer ≡ set-answer
     pub twelve : (plan-answer ≡ refused 12) ↔ (ItsTurn W m g × ((p : ℕ) × (held (shape-of W m) m (g .animal) ≡ some p)))
     pub refuses : held (shape-of W m) m (g .animal) ≡ none → (n : ℕ) → (plan-answer ≡ refused n) ↔ (set-answer ≡ refused n)
     pub stores : held (shape-of W m) m (g .animal) ≡ none → (v n : ℕ) → set-answer ≡ stored v n

@@ -53,8 +53,9 @@ pub record Owed : Type 0 where
   pub retired-replaced : (W : Ways) → RetiredReplaced W (ours W)
   pub retired-then-dated : (W : Ways) → RetiredThenDated W (ours W)
   pub none-retired : (W : Ways) (T : Table) → Demand2 W T → NoneRetired W T
-  -- wish 7: a set in steps. On any memory: when a step is made, what a plan is beside a set, and that a plan that is carried out leaves
-  -- what the set leaves; after any run of finished calls, the fewest moves at the moment of planning, and nobody else's answer changes
+  -- wish 7: a set in steps. On any memory: when a step is made, what a plan is beside a set, and that a plan that is carried out without
+  -- calls between leaves what the set leaves; after any run of finished calls, the fewest moves at the moment of planning, and nobody
+  -- else's answer changes
   pub step-rule : (W : Ways) → StepRule W (ours W)
   pub plan-is-sets : (W : Ways) (m : Mem) (g : Grant) → PlanIsSets W m g
   pub plan-quiet : (W : Ways) → PlanQuiet (ours W)

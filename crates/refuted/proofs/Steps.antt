@@ -2,13 +2,14 @@
 use Prim.Native.Nat.{ℕ}
 use native.Mathlib.Omega.{arith}
 use mathlib.Core.Path.{_≡_, refl, sym, ap, _∙_}
-use mathlib.Core.Logic.{inl}
+use mathlib.Core.Logic.{_≢_, inl}
 use mathlib.Core.Bool.{true}
 use mathlib.Core.List.{List, []}
 use lib.ListN.{getD}
+use Rattle.model.specs.Memory.{Mem, mem}
 use Rattle.model.specs.Shape.{four, shape-of}
-use Rattle.model.specs.Calling.{Event, did, grant, step-enter, step-move}
-use Rattle.model.specs.Answers.{move-made, refused}
+use Rattle.model.specs.Calling.{Event, did, grant, set-animal, step-enter, step-move}
+use Rattle.model.specs.Answers.{Answer, move-made, paper, refused}
 use Rattle.model.specs.Calls.{may-enter, may-move}
 use Rattle.model.specs.AnyTable.{Table, Write, make-all}
 use Rattle.model.specs.Late.{ItsTurn}
@@ -17,12 +18,18 @@ use Rattle.model.specs.Examples.{move-of, nobody, seventeen, three-full}
 use Rattle.model.specs.declared.Grant.{Grant}
 use Rattle.model.proofs.ListLaws.{true-false}
 use Rattle.model.proofs.Demand1.{is-refusal}
-use Rattle.refuted.specs.Wrong.{moves-nothing, never-steps}
+use Rattle.refuted.specs.Wrong.{moves-nothing, never-steps, twelve-first}
 use Rattle.refuted.proofs.Refuted.{computing}
 
 -- animal 2 goes into place 0 and slot 12 of a table with nobody in it; and of three full buckets the word in slot 13 goes to slot 8
 abbrev newcomer : Grant
 newcomer = grant 2 9 100 130
+
+abbrev none-lent : Mem
+none-lent = mem [] [] []
+
+abbrev number : Answer → ℕ
+number a = paper a .number
 
 abbrev enters : Event
 enters = did (step-enter newcomer 0 12)
@@ -50,6 +57,12 @@ turn =
 pub refuses-step : (T : Table) (n : ℕ) → T .answer nobody enters ≡ refused n → StepRule four T → ⊥
 refuses-step T n e R = true-false {b = true} refl (ap is-refusal (sym e ∙ R .enters nobody newcomer 0 12 .iff .1 (turn, may)))
 
+-- any table at all whose final store refuses by another number than its set, where no word is lent, breaks it
+pub refuses-unlike-set : (T : Table) (k n : ℕ) → k ≢ n → T .answer none-lent enters ≡ refused k
+    → T .answer none-lent (did (set-animal newcomer)) ≡ refused n → StepRule four T → ⊥
+unfolding computing
+refuses-unlike-set T k n u e s R = u (ap number (sym e ∙ R .enters none-lent newcomer 0 12 .before-turn (λ t. true-false (t .lengths) refl) ∙ s))
+
 -- any table at all that says of this move that it was made, and writes no word, breaks it
 pub writes-no-move : (T : Table) → T .answer three-full moves ≡ move-made → T .writes three-full moves ≡ [] → StepRule four T → ⊥
 writes-no-move T e w R =
@@ -61,6 +74,11 @@ writes-no-move T e w R =
 pub never-steps-rule : StepRule four never-steps → ⊥
 unfolding computing may-enter
 never-steps-rule = refuses-step never-steps 12 refl
+
+-- a table whose 12 comes first
+pub twelve-first-rule : StepRule four twelve-first → ⊥
+unfolding computing
+twelve-first-rule = refuses-unlike-set twelve-first 12 1 (λ z. absurd (omega arith)) refl refl
 
 -- a table whose moves move nothing
 pub moves-nothing-rule : StepRule four moves-nothing → ⊥

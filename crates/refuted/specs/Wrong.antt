@@ -1,9 +1,11 @@
 -- The wrong tables that document 01 names, each a small change of ours; one that clears the source first, one that stamps the arrival,
--- and two with wrong steps. Assumes nothing.
+-- and three with wrong steps. Assumes nothing.
 use Prim.Native.Nat.{ℕ}
+use mathlib.Core.Bool.{Bool}
 use mathlib.Core.List.{List, [], _∷_, _++_}
+use lib.Dec.{eqb}
 use Rattle.model.specs.Choice.{choose, one-of}
-use Rattle.model.specs.Answers.{is, value, Answer, refused, stored}
+use Rattle.model.specs.Answers.{is, paper, value, Answer, refused, stored}
 use Rattle.model.specs.Memory.{Mem}
 use Rattle.model.specs.Shape.{four, Ways}
 use Rattle.model.specs.Stores.{Block, Store, counted, enter, move, recency, remove, slot-to, stores-of, update}
@@ -25,6 +27,24 @@ misread f (did (write-list size)) a = a
 misread f (did (plan-set g)) a = a
 misread f (did (step-move g v)) a = a
 misread f (did (step-enter g p i)) a = a
+
+-- and the steps do
+abbrev pub misstep : (Answer → Answer) → Event → Answer → Answer
+misstep f make-fresh a = a
+misstep f (did (read x limit now)) a = a
+misstep f (did (serve x limit now)) a = a
+misstep f (did (find x)) a = a
+misstep f (did (set-animal g)) a = a
+misstep f (did (delete x)) a = a
+misstep f (did (evict hand)) a = a
+misstep f (did (write-list size)) a = a
+misstep f (did (plan-set g)) a = a
+misstep f (did (step-move g v)) a = f a
+misstep f (did (step-enter g p i)) a = f a
+
+-- a refusal is 12, whatever number it should be
+abbrev pub by-twelve : Answer → Answer
+by-twelve a = choose (eqb (paper a .number) 0) a (refused 12)
 
 -- the visit count is n, whatever the search did
 abbrev pub miscount : ℕ → Answer → Answer
@@ -135,13 +155,21 @@ counts n = retold four (λ e. miscount n)
 abbrev pub source-first : Table
 source-first = built four all-swapped
 
+-- a step would be made
+abbrev a-step : Mem → Event → Bool
+a-step m e = one-of (value (event-answer four m e) 0) (11 ∷ 12 ∷ [])
+
 -- every step that would be made is 12 in its place, and nothing is written
 abbrev pub never-steps : Table
 never-steps =
     record {
-      answer = λ m e. choose (one-of (value (event-answer four m e) 0) (11 ∷ 12 ∷ [])) (refused 12) (event-answer four m e);
-      writes = λ m e. choose (one-of (value (event-answer four m e) 0) (11 ∷ 12 ∷ [])) [] (our-writes four m e);
+      answer = λ m e. choose (a-step m e) (refused 12) (event-answer four m e);
+      writes = λ m e. choose (a-step m e) [] (our-writes four m e);
     }
+
+-- a step that is not made is 12, though 1, 2, 3, 8 or 4 should come first
+abbrev pub twelve-first : Table
+twelve-first = retold four (misstep by-twelve)
 
 -- a move is said to be made, and nothing is written
 abbrev pub moves-nothing : Table

@@ -12,7 +12,8 @@ use model::Grant;
 use model::MoveRecord;
 use replay_rows::Turn;
 
-// The tag of a line as a record holds it, for the word in the source: 65536, which is no word's tag, where the word has another. So a number above 32 bits is compared whole.
+// The tag of a line as a record holds it, for the word in the source: 65536, which is no word's tag, where the word has another. So a
+// number above 32 bits is compared whole.
 fn tag_for(word: u32, said: u64) -> u32
     ensures { λ r. ⌜ eqb (tag word) r ≡ eqb (tag word) said ⌝ }
 {

@@ -1,4 +1,5 @@
-// A set in steps as a Rattle program makes it: the plan goes along by value, four records, and each step says which of them it makes. Beside it a set, on a table with the same words.
+// A set in steps as a Rattle program makes it: the plan goes along by value, four records, and each step says which of them it makes.
+// Beside it a set, on a table with the same words.
 ghost use Prim.Native.Nat.{_+_, _≤_};
 ghost use lib.ListN.{length};
 use libc::STDOUT_FILENO;

@@ -17,7 +17,8 @@ use model::Grant;
 use model::MoveRecord;
 use model::Stepping;
 
-// The do of a move: the test by its two words, and then the word that stands in its source moves. It knows the ways by a shift only.
+// The test and the do of a move: it may be made by its two words, and then the word that stands in its source moves. It knows the ways
+// by a shift only.
 fn make_move(
     slots: &mut [u32],
     counters: &mut [u32],
@@ -89,8 +90,9 @@ pub fn step_planned(
     step_move(slots, counters, items, g, v)
 }
 
-// The do of the final store of an absent animal: the test by the place's number and the slot's word, and then the new entry.
-fn enter_at(
+// The test and the do of the final store of an absent animal: it may be made by the place's number and the slot's word, and then comes
+// the new entry.
+fn make_entry(
     slots: &mut [u32],
     counters: &mut [u32],
     items: &mut [u64],
@@ -164,7 +166,7 @@ pub fn step_enter(
     let homes = looked.homes;
     match look {
         Look::Refused(n) => Stepping::Refused(n),
-        Look::Absent => enter_at(
+        Look::Absent => make_entry(
             slots,
             counters,
             items,
