@@ -1,8 +1,8 @@
 /*
  * A set in steps: a nearly full table gets its last cows, and between two steps all others are served. Once the office
  * sends an urgent permission in between, and the plan is overtaken: refusal 12, plan again. With two tasks each call
- * stands between lock and unlock, as in antenna.c: the antenna waits for one step at most, not for a whole set.
- * Run by `examples/c/run steps`.
+ * stands between lock and unlock, as in antenna.c. The longest is the plan, which only reads: with a lock for readers
+ * and writers no read waits for it. Run by `examples/c/run steps`.
  */
 #include <inttypes.h>
 #include <stdio.h>

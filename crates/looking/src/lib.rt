@@ -46,7 +46,8 @@ pub fn is_odd(counters: &[u32], c: u32) -> bool
     counters[c as usize] % 2 == 1
 }
 
-// Refusals 1, 2, 3, 8 and 4, in this order; 0 if none is given.
+// Refusals 1, 2, 3, 8 and 4, in this order; 0 if none is given. For a move, which does not ask whether the animal is held: so without
+// the hit that `look_up` looks for.
 pub fn refused_first(slots: &[u32], counters: &[u32], items: &[u64], animal: u64, bad: bool) -> u32
     ensures { λ r. ⌜ r ≡ due four (mem (now (slots .entry)) (now (counters .entry)) (now (items .entry))) animal bad ⌝ }
 {
@@ -66,7 +67,7 @@ pub fn refused_first(slots: &[u32], counters: &[u32], items: &[u64], animal: u64
     0
 }
 
-// What set and delete look up: a refusal, nothing, or the word of the hit.
+// What set, delete, plan and the final store look up: a refusal, nothing, or the word of the hit.
 pub enum Look {
     Refused(u32),
     Absent,

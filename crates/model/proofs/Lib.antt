@@ -1,6 +1,7 @@
 -- Where a definition says another thing than document 01, it shows here first
 pub mod AsWritten
--- Footing: lists, the hash, what a shape's numbers are like, calm memory, how long is left, what is said of a permission, the row's words, lengths and stores, late lists
+-- Footing: lists, the hash, what a shape's numbers are like, home slots, calm memory, how long is left, what is said of a permission, the
+-- row's words, lengths and stores, the turns of the refusals, late lists, records of moves
 pub mod ListLaws
 pub mod Hash
 pub mod ShapeLaws
@@ -25,7 +26,6 @@ pub mod Room
 pub mod Positions
 pub mod Search
 pub mod Sources
-pub mod PlanSaid
 -- Pillar WORDS: a block keeps a table well-formed; a read finds what a walk over the places finds
 pub mod MovedWords
 pub mod KeepBlocks
@@ -59,6 +59,7 @@ pub mod Retired
 pub mod NoneRetired
 pub mod Linked
 pub mod InSteps
+pub mod PlanSaid
 pub mod CarriedOut
 pub mod PlanRoom
 pub mod Theorems

@@ -119,7 +119,7 @@ module _ (T : List ℕ) (queue : List Entry) (v s : ℕ) where
         let none : climb (layout-of four n) Q 2 (4 - count) at (b .by) ≡ []
         = done n (4 - count) at (b .by) (⊎-elim (λ l. inl (omega arith)) (λ l. inr l) e) in
         let all : climb (layout-of four n) Q 2 4 v s ≡ b .gone = sym (b .whole n) ∙ rw none (append-nil (b .gone)) in
-        rw (all, b .long, b .freed, b .row)
+        rw (all, length-records T (b .gone), b .long, b .freed, b .row)
 
   -- a source of a move lies in the table
   pub source-in : {p i from : ℕ} → BackFrom T Q v s → from ≡ getD queue p no-entry .bucket * 4 + i → p ≤ v → i < 4 → from < length T

@@ -1,9 +1,9 @@
 -- What the search gives back: no room, or the moves back from a position of its queue. Assumes nothing.
-use Prim.Native.Nat.{ℕ, _+_, _-_, _*_, _<_, _≤_}
-use mathlib.Core.List.{List, _++_, map}
+use Prim.Native.Nat.{ℕ, _+_, _*_, _<_, _≤_}
+use mathlib.Core.List.{List, map}
 use lib.ListN.{length, getD, replicate}
 use Rattle.model.specs.Shape.{Ways}
-use Rattle.model.specs.Moves.{Move, no-move, records-of}
+use Rattle.model.specs.Moves.{Move, four-records, no-move, records-of}
 use Rattle.model.specs.Visits.{climb, lands}
 use Rattle.model.specs.declared.MoveRecord.{MoveRecord}
 use Rattle.paths.specs.declared.Entry.{Entry}
@@ -14,7 +14,7 @@ use Rattle.paths.specs.Buckets.{layout-of}
 
 -- the four records of a path: its moves in the slots T, and then empty ones
 abbrev pub path-records : List ℕ → List Move → List MoveRecord
-path-records T ms = records-of T ms ++ replicate (4 - length ms) no-move
+path-records T ms = four-records (records-of T ms)
 
 -- no room; and room at position v of the visit list, where slot i is free and ms are the moves back from it
 abbrev pub no-room : Ending → Found

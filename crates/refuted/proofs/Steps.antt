@@ -1,4 +1,5 @@
--- The tables with wrong steps break wish 7's rule, which the demands do not say: refusal 12 is one of their exceptions. Assumes nothing.
+-- The tables with wrong steps break wish 7's rule. The demands do not say it: a step's 12 is one of their exceptions, and where finished
+-- calls lead 1, 8 and 4 are not due. Assumes nothing.
 use Prim.Native.Nat.{ℕ}
 use native.Mathlib.Omega.{arith}
 use mathlib.Core.Path.{_≡_, refl, sym, ap, _∙_}

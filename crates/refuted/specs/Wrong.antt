@@ -3,7 +3,6 @@
 use Prim.Native.Nat.{ℕ}
 use mathlib.Core.Bool.{Bool}
 use mathlib.Core.List.{List, [], _∷_, _++_}
-use lib.Dec.{eqb}
 use Rattle.model.specs.Choice.{choose, one-of}
 use Rattle.model.specs.Answers.{is, paper, value, Answer, refused, stored}
 use Rattle.model.specs.Memory.{Mem}
@@ -42,9 +41,9 @@ misstep f (did (plan-set g)) a = a
 misstep f (did (step-move g v)) a = f a
 misstep f (did (step-enter g p i)) a = f a
 
--- a refusal is 12, whatever number it should be
+-- refusals 1, 8 and 4 are 12, and 2 and 3, which the row knows, what they are
 abbrev pub by-twelve : Answer → Answer
-by-twelve a = choose (eqb (paper a .number) 0) a (refused 12)
+by-twelve a = choose (one-of (paper a .number) (1 ∷ 8 ∷ 4 ∷ [])) (refused 12) a
 
 -- the visit count is n, whatever the search did
 abbrev pub miscount : ℕ → Answer → Answer
@@ -167,7 +166,7 @@ never-steps =
       writes = λ m e. choose (a-step m e) [] (our-writes four m e);
     }
 
--- a step that is not made is 12, though 1, 2, 3, 8 or 4 should come first
+-- a step is 12 where 1, 8 or 4 should come first
 abbrev pub twelve-first : Table
 twelve-first = retold four (misstep by-twelve)
 

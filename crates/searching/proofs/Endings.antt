@@ -57,7 +57,7 @@ module _ (W : Ways) (n m : ℕ) (T : List ℕ) (b c : ℕ) where
       let ne = eqb-false stops (length (visits-of W n T b c)) e in
       let in-list : stops < length (visits-of W n T b c) = omega (arith, stop-le (layout-of W n) T (visits-of W n T b c)) in
       let first : take (length the-moves) (path-records T the-moves) ≡ records-of T the-moves
-      = take-at (records-of T the-moves) (replicate (4 - length the-moves) no-move) (length the-moves) (length-records T the-moves) in
+      = take-at (records-of T the-moves) (replicate (4 - length (records-of T the-moves)) no-move) (length the-moves) (length-records T the-moves) in
       record {
         undamaged = d;
         not-at-end = e;

@@ -1,17 +1,17 @@
 -- Where an absent animal would go: the lowest vacant place, then the search; a law a way out. Assumes nothing.
-use Prim.Native.Nat.{ℕ, _-_, _*_, _<_, _≤_, _/_, _^_}
+use Prim.Native.Nat.{ℕ, _*_, _<_, _≤_, _/_, _^_}
 use native.Mathlib.Nat.{mul-le-mul-right}
 use native.Mathlib.Omega.{arith}
 use mathlib.Core.Path.{_≡_, sym, ap, _∙_, subst, ap₂}
 use mathlib.Core.Bool.{Bool}
 use mathlib.Core.Option.{some}
-use mathlib.Core.List.{List, _++_}
-use lib.ListN.{length, replicate, take}
+use mathlib.Core.List.{List}
+use lib.ListN.{length, take}
 use lib.Dec.{eqb}
 use Rattle.model.specs.Choice.{choose}
 use Rattle.model.specs.Memory.{Mem}
 use Rattle.model.specs.Shape.{Shape, Ways, second-of, shape-of}
-use Rattle.model.specs.Moves.{Move, as-moves, no-move, records-of}
+use Rattle.model.specs.Moves.{Move, as-moves, four-records, records-of}
 use Rattle.model.specs.Answers.{planned}
 use Rattle.model.specs.Calls.{Outcome, enter-at, entered, final-slot, moves-found, plan-new, refuse, stopped, tell, vacant-place, visited}
 use Rattle.model.specs.Said.{plan-of}
@@ -42,8 +42,8 @@ use Rattle.vacancy.specs.declared.Room.{Room}
 plan-found : (T : List ℕ) (ms : List Move) (p i : ℕ)
     → plan-of (planned (records-of T ms) p i) ≡ record { told = planning.Planned; moves = path-records T ms; count = length ms; place = p; slot = i }
 plan-found T ms p i =
-    ap (λ vs. record { told = planning.Planned; moves = vs ++ replicate (4 - length vs) no-move; count = length vs; place = p; slot = i }) (numbers-back (records-of T ms))
-    ∙ ap (λ n. record { told = planning.Planned; moves = records-of T ms ++ replicate (4 - n) no-move; count = n; place = p; slot = i }) (length-records T ms)
+    ap (λ vs. record { told = planning.Planned; moves = four-records vs; count = length vs; place = p; slot = i }) (numbers-back (records-of T ms))
+    ∙ ap (λ n. record { told = planning.Planned; moves = path-records T ms; count = n; place = p; slot = i }) (length-records T ms)
 
 module _ (W : Ways) (m : Mem) (x : ℕ) {h : Homes} (a : Homed W m x h) where
   -- what the search takes, and the walk over the places
