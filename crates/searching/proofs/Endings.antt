@@ -1,15 +1,15 @@
 -- What each ending of the search says, for any ways. Assumes nothing.
-use Prim.Native.Nat.{ℕ, _+_, _-_, _<_, _≤_}
+use Prim.Native.Nat.{ℕ, _+_, _<_, _≤_}
 use native.Mathlib.Omega.{arith}
 use mathlib.Core.Path.{_≡_, refl, sym, ap, _∙_, subst}
 use mathlib.Core.Bool.{true, false}
 use mathlib.Core.List.{List, [], _∷_}
-use lib.ListN.{length, getD, take, replicate}
+use lib.ListN.{length, getD, take}
 use lib.Seq.{take-at}
 use borrow.Author.Tests.{eqb-false}
 use Rattle.model.specs.Choice.{choose}
 use Rattle.model.specs.Shape.{Ways}
-use Rattle.model.specs.Moves.{Move, as-moves, no-move, records-of}
+use Rattle.model.specs.Moves.{Move, as-moves, records-of}
 use Rattle.model.specs.Visits.{free-slot, lands, search-moves, stop, stop-slot}
 use Rattle.model.proofs.Search.{length-climb, stop-le}
 use Rattle.model.proofs.ListLaws.{bool}
@@ -57,7 +57,7 @@ module _ (W : Ways) (n m : ℕ) (T : List ℕ) (b c : ℕ) where
       let ne = eqb-false stops (length (visits-of W n T b c)) e in
       let in-list : stops < length (visits-of W n T b c) = omega (arith, stop-le (layout-of W n) T (visits-of W n T b c)) in
       let first : take (length the-moves) (path-records T the-moves) ≡ records-of T the-moves
-      = take-at (records-of T the-moves) (replicate (4 - length (records-of T the-moves)) no-move) (length the-moves) (length-records T the-moves) in
+      = take-at (records-of T the-moves) _ (length the-moves) (length-records T the-moves) in
       record {
         undamaged = d;
         not-at-end = e;

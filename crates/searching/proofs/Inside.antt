@@ -1,10 +1,10 @@
 -- Where there is room, the source slot of every move lies in the table, for any ways. Assumes nothing.
-use Prim.Native.Nat.{ℕ, zero, suc, _-_, _<_}
+use Prim.Native.Nat.{ℕ, zero, suc, _<_}
 use native.Mathlib.Omega.{arith}
 use mathlib.Core.List.{List, [], _∷_, _++_}
-use lib.ListN.{length, getD, replicate, length-set}
+use lib.ListN.{length, getD, length-set}
 use Rattle.model.specs.Shape.{Layout, Ways}
-use Rattle.model.specs.Moves.{Move, Run, moved, no-move, records-of}
+use Rattle.model.specs.Moves.{Move, Run, moved, records-of}
 use Rattle.model.specs.Visits.{search-moves}
 use Rattle.model.specs.declared.MoveRecord.{MoveRecord}
 use Rattle.model.proofs.Hash.{other-lt}
@@ -30,4 +30,4 @@ sources-in {W} {n} {T = T} {b} {c} ask f i h d =
     let ms = search-moves S T (b ∷ c ∷ []) (W .reach) in
     let homes = home-in W n T b c (ask .size) (ask .first-in) (ask .second-in) in
     let s = search-some S T n (ask .long) (other-lt (ask .size)) (b ∷ c ∷ []) homes (W .reach) (f .inside) in
-    rw (f .moves-are) (run-inside S T T ms (replicate (4 - length ms) no-move) i d (s .run) (rw (f .count-is) at h))
+    rw (f .moves-are) (run-inside S T T ms _ i d (s .run) (rw (f .count-is) at h))
