@@ -97,6 +97,8 @@ module _ (W : Ways) (m : Mem) (g : Grant) where
           else-twelve = step-else W m g b move-made moving refl refl (MayMove Y (m .slots) v) yes only;
           slots-are = λ e. ap (λ (m : Mem). m .slots) (leaves-lent W m (step-move g v))
               ∙ ap (λ (o : Outcome). wholes (o .blocks) m .slots) (step-blocks W m g b move-made moving refl refl (MayMove Y (m .slots) v) yes only e);
+          counters-are = λ e. ap (λ (m : Mem). m .counters) (leaves-lent W m (step-move g v))
+              ∙ ap (λ (o : Outcome). wholes (o .blocks) m .counters) (step-blocks W m g b move-made moving refl refl (MayMove Y (m .slots) v) yes only e);
           items-are = ap (λ (m : Mem). m .items) (leaves-lent W m (step-move g v)) ∙ stays;
         }
 
@@ -115,6 +117,8 @@ module _ (W : Ways) (m : Mem) (g : Grant) where
           else-twelve = step-else W m g b entry-made entering refl refl (MayEnter Y m x p i) yes only;
           slots-are = λ e. ap (λ (m : Mem). m .slots) (leaves-lent W m (step-enter g p i))
               ∙ ap (λ (o : Outcome). wholes (o .blocks) m .slots) (step-blocks W m g b entry-made entering refl refl (MayEnter Y m x p i) yes only e);
+          counters-are = λ e. ap (λ (m : Mem). m .counters) (leaves-lent W m (step-enter g p i))
+              ∙ ap (λ (o : Outcome). wholes (o .blocks) m .counters) (step-blocks W m g b entry-made entering refl refl (MayEnter Y m x p i) yes only e);
           items-are = λ e. ap (λ (m : Mem). m .items) (leaves-lent W m (step-enter g p i))
               ∙ ap (λ (o : Outcome). wholes (o .blocks) m .items) (step-blocks W m g b entry-made entering refl refl (MayEnter Y m x p i) yes only e);
         }

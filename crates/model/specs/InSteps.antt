@@ -1,7 +1,7 @@
 -- Wish 7: a set in steps, with other calls between. When a move and the final store are made, what a plan is beside a set, and what comes
 -- of a plan that is carried out: over any table, but for `PlanIsSets`, which is of ours, and on any memory where no story is named.
 -- Assumes nothing.
-use Prim.Native.Nat.{ℕ, _+_, _*_, _<_, _≤_}
+use Prim.Native.Nat.{ℕ, _+_, _*_, _%_, _^_, _<_, _≤_}
 use mathlib.Core.Path.{_≡_}
 use mathlib.Core.Logic.{_≢_, _↔_}
 use mathlib.Core.Bool.{false}
@@ -9,7 +9,7 @@ use mathlib.Core.Option.{none, some}
 use mathlib.Core.List.{List, [], _∷_, _++_}
 use lib.ListN.{length, getD, set}
 use Rattle.model.specs.Memory.{Mem, word, tag, damaged, animal}
-use Rattle.model.specs.Shape.{Shape, Ways, Home, bucket, other, shape-of}
+use Rattle.model.specs.Shape.{Shape, Ways, Home, bucket, counter-at, counter-of, other, shape-of}
 use Rattle.model.specs.Moves.{Move, Run, as-move, as-moves, moved, moved-by, records-of}
 use Rattle.model.specs.Calling.{Call, Event, Typed, about, did, plan-set, set-animal, step-enter, step-move}
 use Rattle.model.specs.Answers.{Answer, entry-made, move-made, planned, refused, stored}
@@ -44,19 +44,29 @@ module _ (Y : Shape) where
     pub free : word m i ≡ 0
     pub home : Home Y x (bucket Y i)
 
+-- counter c is added to twice
+abbrev added : ℕ → List ℕ → List ℕ
+added c cs = set cs c ((getD cs c 0 + 1) % 2 ^ 32)
+
+abbrev pub twice : ℕ → List ℕ → List ℕ
+twice c cs = added c (added c cs)
+
 -- what is so of a step of table T on the memory m. Its turn comes where 1, 2, 3, 8 and 4 are not due; before it, it answers as a set of
 -- the animal does
 module _ (W : Ways) (T : Table) (m : Mem) (g : Grant) where
-  -- a move is made exactly if it may be; else, in its turn, it is 12. A move that is made takes the word along, and no item word changes
+  -- a move is made exactly if it may be; else, in its turn, it is 12. A move that is made takes the word along and adds twice to the
+  -- counter of the entry, and no item word changes
   module _ (v : MoveRecord) where
     pub record MoveMadeIff : Type 0 where
       pub before-turn : ¬ ItsTurn W m g → T .answer m (did (step-move g v)) ≡ T .answer m (did (set-animal g))
       pub iff : (T .answer m (did (step-move g v)) ≡ move-made) ↔ (ItsTurn W m g × MayMove (shape-of W m) (m .slots) v)
       pub else-twelve : ItsTurn W m g → ¬ MayMove (shape-of W m) (m .slots) v → T .answer m (did (step-move g v)) ≡ refused 12
       pub slots-are : T .answer m (did (step-move g v)) ≡ move-made → leaves T m (did (step-move g v)) .slots ≡ moved (m .slots) (as-move v)
+      pub counters-are : T .answer m (did (step-move g v)) ≡ move-made → leaves T m (did (step-move g v)) .counters
+          ≡ twice (counter-at (shape-of W m) (tag (word m (v .from))) (bucket (shape-of W m) (v .from))) (m .counters)
       pub items-are : leaves T m (did (step-move g v)) .items ≡ m .items
 
-  -- and so is the final store: then the slot leads to the place, and the place is filled
+  -- and so is the final store: then the slot leads to the place, the animal's counter is added to twice, and the place is filled
   module _ (p i : ℕ) where
     pub record EnterMadeIff : Type 0 where
       pub before-turn : ¬ ItsTurn W m g → T .answer m (did (step-enter g p i)) ≡ T .answer m (did (set-animal g))
@@ -64,11 +74,13 @@ module _ (W : Ways) (T : Table) (m : Mem) (g : Grant) where
       pub else-twelve : ItsTurn W m g → ¬ MayEnter (shape-of W m) m (g .animal) p i → T .answer m (did (step-enter g p i)) ≡ refused 12
       pub slots-are : T .answer m (did (step-enter g p i)) ≡ entry-made
           → leaves T m (did (step-enter g p i)) .slots ≡ set (m .slots) i (shape-of W m .tag-of (g .animal) * 65536 + p)
+      pub counters-are : T .answer m (did (step-enter g p i)) ≡ entry-made
+          → leaves T m (did (step-enter g p i)) .counters ≡ twice (counter-of (shape-of W m) (g .animal)) (m .counters)
       pub items-are : T .answer m (did (step-enter g p i)) ≡ entry-made
           → leaves T m (did (step-enter g p i)) .items ≡ fill (m .items) p (g .animal) (g .permission) (g .issued) 1
 
--- the rule of the steps, of any table: one that answers 12 to every step breaks it, one that answers it too early, and one that says of
--- a move that it was made and moves nothing
+-- the rule of the steps, of any table: one that answers 12 to every step breaks it, one that answers it too early, one that says of a
+-- move that it was made and moves nothing, and one whose moves do not count
 pub record StepRule (W : Ways) (T : Table) : Type 0 where
   pub moves : (m : Mem) (g : Grant) (v : MoveRecord) → MoveMadeIff W T m g v
   pub enters : (m : Mem) (g : Grant) (p i : ℕ) → EnterMadeIff W T m g p i

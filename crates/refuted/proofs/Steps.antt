@@ -1,5 +1,5 @@
--- The tables with wrong steps break wish 7's rule. The demands do not say it: a step's 12 is one of their exceptions, and where finished
--- calls lead 1, 8 and 4 are not due. Assumes nothing.
+-- The tables with wrong steps break wish 7's rule. The demands do not say it: a step's 12 is one of their exceptions, where finished calls
+-- lead 1, 8 and 4 are not due, and a step has no cut yet. Assumes nothing.
 use Prim.Native.Nat.{ℕ}
 use native.Mathlib.Omega.{arith}
 use mathlib.Core.Path.{_≡_, refl, sym, ap, _∙_}
@@ -12,14 +12,14 @@ use Rattle.model.specs.Shape.{four, shape-of}
 use Rattle.model.specs.Calling.{Event, did, grant, set-animal, step-enter, step-move}
 use Rattle.model.specs.Answers.{Answer, move-made, paper, refused}
 use Rattle.model.specs.Calls.{may-enter, may-move}
-use Rattle.model.specs.AnyTable.{Table, Write, make-all}
+use Rattle.model.specs.AnyTable.{Table, Write, leaves, make-all}
 use Rattle.model.specs.Late.{ItsTurn}
 use Rattle.model.specs.InSteps.{MayEnter, StepRule}
 use Rattle.model.specs.Examples.{move-of, nobody, seventeen, three-full}
 use Rattle.model.specs.declared.Grant.{Grant}
 use Rattle.model.proofs.ListLaws.{true-false}
 use Rattle.model.proofs.Demand1.{is-refusal}
-use Rattle.refuted.specs.Wrong.{moves-nothing, never-steps, twelve-first}
+use Rattle.refuted.specs.Wrong.{counts-nothing, moves-nothing, never-steps, twelve-first}
 use Rattle.refuted.proofs.Refuted.{computing}
 
 -- animal 2 goes into place 0 and slot 12 of a table with nobody in it; and of three full buckets the word in slot 13 goes to slot 8
@@ -71,6 +71,13 @@ writes-no-move T e w R =
     let z : _≡_ {A = ℕ} 0 14745609 = ap (λ (T : List ℕ). getD T 8 0) same in
     absurd (omega arith)
 
+-- any table at all that says of this move that it was made, and leaves the counters as they were, breaks it
+pub counts-no-move : (T : Table) → T .answer three-full moves ≡ move-made → leaves T three-full moves .counters ≡ three-full .counters → StepRule four T → ⊥
+unfolding computing
+counts-no-move T e w R =
+    let z : _≡_ {A = ℕ} 0 2 = ap (λ (cs : List ℕ). getD cs 2 0) (sym w ∙ R .moves three-full seventeen (move-of 13 225 8) .counters-are e) in
+    absurd (omega arith)
+
 -- a table that answers 12 to every step
 pub never-steps-rule : StepRule four never-steps → ⊥
 unfolding computing may-enter
@@ -85,3 +92,8 @@ twelve-first-rule = refuses-unlike-set twelve-first 12 1 (λ z. absurd (omega ar
 pub moves-nothing-rule : StepRule four moves-nothing → ⊥
 unfolding computing may-move
 moves-nothing-rule = writes-no-move moves-nothing refl refl
+
+-- a table whose moves do not count
+pub counts-nothing-rule : StepRule four counts-nothing → ⊥
+unfolding computing may-move
+counts-nothing-rule = counts-no-move counts-nothing refl refl

@@ -1,5 +1,5 @@
 -- The wrong tables that document 01 names, each a small change of ours; one that clears the source first, one that stamps the arrival,
--- and three with wrong steps. Assumes nothing.
+-- and four with wrong steps. Assumes nothing.
 use Prim.Native.Nat.{ℕ}
 use mathlib.Core.Bool.{Bool}
 use mathlib.Core.List.{List, [], _∷_, _++_}
@@ -10,7 +10,7 @@ use Rattle.model.specs.Shape.{four, Ways}
 use Rattle.model.specs.Stores.{Block, Store, counted, enter, move, recency, remove, slot-to, stores-of, update}
 use Rattle.model.specs.Calling.{Event, delete, did, evict, find, make-fresh, plan-set, read, serve, set-animal, step-enter, step-move, write-list}
 use Rattle.model.specs.Lent.{event-answer, lent-call}
-use Rattle.model.specs.AnyTable.{Table, Write}
+use Rattle.model.specs.AnyTable.{Table, Write, counter, item, slot}
 use Rattle.model.specs.Ours.{our-writes, traced}
 
 -- wrong answers: reads and serves say f of what they should say
@@ -97,6 +97,13 @@ abbrev pub all-restamped : ℕ → List Block → List Store
 all-restamped t [] = []
 all-restamped t (b ∷ bs) = restamped t b ++ all-restamped t bs
 
+-- the writes to slots and items alone
+abbrev pub uncounted : List Write → List Write
+uncounted [] = []
+uncounted (counter c v ∷ ws) = uncounted ws
+uncounted (slot i v ∷ ws) = slot i v ∷ uncounted ws
+uncounted (item i v ∷ ws) = item i v ∷ uncounted ws
+
 -- changes of our table, of any ways and moves
 module _ (W : Ways) where
   -- other answers, and the same writes
@@ -170,6 +177,15 @@ never-steps =
 abbrev pub twelve-first : Table
 twelve-first = retold four (misstep by-twelve)
 
--- a move is said to be made, and nothing is written
+-- a move is said to be made, and f of what it should write is written
+abbrev pub miswritten : (List Write → List Write) → Table
+miswritten f =
+    record { answer = event-answer four; writes = λ m e. choose (is 11 (event-answer four m e)) (f (our-writes four m e)) (our-writes four m e) }
+
+-- a move writes nothing
 abbrev pub moves-nothing : Table
-moves-nothing = record { answer = event-answer four; writes = λ m e. choose (is 11 (event-answer four m e)) [] (our-writes four m e) }
+moves-nothing = miswritten (λ ws. [])
+
+-- a move does not count
+abbrev pub counts-nothing : Table
+counts-nothing = miswritten uncounted
