@@ -25,11 +25,11 @@
  * milking, else bit 1 grazing, else holding. Every other answer and every refusal means holding. boughladder_lane says
  * all of this.
  *
- * One call at a time. No call, not even read, plain read, find, list, judge, plan or propose, may run while a writing
- * call runs on the same table. Fresh, set, delete, evict, their cut forms, the two steps and carry write, and so does
- * serve. Put one mutex around every call, as examples/c/antenna.c does; examples/c/torn.c shows the wrong answers that
- * come without it. Reads, plain reads, finds, lists, judges, plans and proposals beside each other are fine. Refusal 8
- * (busy) is no lock: it tells of a write that was cut off, not of one under way.
+ * One call at a time. No call, not even read, plain read, find, list, judge or plan, may run while a writing call runs
+ * on the same table. Fresh, set, delete, evict, their cut forms and the two steps write, and so does serve. Put one
+ * mutex around every call, as examples/c/antenna.c does; examples/c/torn.c shows the wrong answers that come without
+ * it. Reads, plain reads, finds, lists, judges and plans beside each other are fine. Refusal 8 (busy) is no lock: it
+ * tells of a write that was cut off, not of one under way.
  *
  * The cut forms make only the first k stores of their call and answer as the whole call does: they show what a loss of
  * power leaves. A counter left odd by a cut makes its animals busy (refusal 8), and they stay busy until fresh.
@@ -62,20 +62,13 @@
  * in set of that animal; a move takes them for nothing else, and does not ask whether the entry that it moves is busy.
  * A held animal can't be planned (12): an update has no steps, it is a set.
  *
- * Plans from the office. Where a set is refused with 6, five to eight moves may still make room. The office, which has
- * the three runs from a dump, asks boughladder_propose; the gate is sent the plan and carries it out by
- * boughladder_carry. It tests the whole plan before the first store, each move on the table as those before it leave
- * it, and carries out all of it or nothing (12). Nothing is reserved here either: a plan that another call has made
- * stale is 12, and the office plans anew. Any plan is judged, whoever made it; it need be no chain, and moves in it may
- * have nothing to do with the animal.
- *
  * Standing permissions are retired: no set makes one. A table from before 4.0.0 may hold some, with UINT64_MAX as their
  * stamp. Such an entry is old at every minute and under every limit, overdue by as much as is ever told, so it opens no
  * gate; serve leaves its recent word alone. No list is late for it: the next set of its animal that is not refused
  * replaces it. The list writes it as it is stored, and judge takes it for sound.
  *
- * No call takes memory but the three runs and the stack: about 3.2 KB for set and plan, 25 KB for propose, which
- * no gate needs, and at most 0.6 KB for any other, as examples/c/stack.c measures it.
+ * No call takes memory but the three runs and the stack: about 3.2 KB for set and plan, at most 0.4 KB for any other,
+ * as examples/c/stack.c measures it.
  * size_t is 64 bits wide in the archive. On a 32-bit target finding, setting, evicting and listing would be smaller,
  * and there is no archive for one.
  *
@@ -95,8 +88,8 @@
    boughladder_lane.
    A caller of 1.0.0 over a table does not compile: each set takes one minute more. One over the runs does: its minute
    and its standing, 0 or 1, are taken for issued and now. That is refusal 3, but for minutes 0 and 1.
-   Compile and link everything again. What is mixed does link (only carry and propose are missing before 4.2.0, plan and
-   the steps before 4.1.0, judge before 3.1.0, plain read before 2.1.0):
+   Compile and link everything again. What is mixed does link (only plan and the steps are missing before 4.1.0, judge
+   before 3.1.0, plain read before 2.1.0):
      - what was compiled with 2.0.0 to 3.1.0 sets every permission with its minute of issue, those it means to be
        standing too. Its cut form of set takes standing for k: where that is 0 it answers as ever and makes no store;
      - this header with an archive of 2.0.0 to 3.1.0 passes no standing: what lies on the stack is taken for it, and
@@ -107,9 +100,9 @@
      - this header with the archive of 1.0.0 has issued taken for now, and now for standing: every permission is then
        fresh for ever.
    Refusal, kind, permission and lane of a reading are right in the first and the third. */
-#define BOUGHLADDER_VERSION "4.2.0"
+#define BOUGHLADDER_VERSION "4.1.0"
 #define BOUGHLADDER_VERSION_MAJOR 4
-#define BOUGHLADDER_VERSION_MINOR 2
+#define BOUGHLADDER_VERSION_MINOR 1
 #define BOUGHLADDER_VERSION_PATCH 0
 
 /* Sizes: words of slots for n buckets, words of items for m places, bytes of a whole list of m places. V counters are
@@ -127,7 +120,6 @@
 #define BOUGHLADDER_LEAST_M 1
 #define BOUGHLADDER_MOST_M 4096
 #define BOUGHLADDER_MOST_MOVES 4 /* of a set, and so of a plan */
-#define BOUGHLADDER_MOST_OFFICE_MOVES 8 /* of a plan from the office */
 #define BOUGHLADDER_LARGEST_LIMIT 10080 /* minutes: a week */
 #define BOUGHLADDER_LEAST_LEFT (-INT64_C(4611686018427387904)) /* -2^62 minutes; what would be less is told as this */
 
@@ -180,14 +172,14 @@ enum BoughladderRefusal {
     BOUGHLADDER_NO_ANIMAL = 2,     /* the animal number is 0 */
     BOUGHLADDER_BAD_TIME = 3,      /* the limit is above 10080, now is no minute, or issued is later than now */
     BOUGHLADDER_DAMAGED = 4,       /* a word that no call writes was read, or evict's victim has no slot */
-    BOUGHLADDER_NO_PLACE = 5,      /* set, plan or propose of an absent animal: all M places are taken */
-    BOUGHLADDER_NO_ROOM = 6,       /* the same: no free slot within four moves; of propose, within eight */
+    BOUGHLADDER_NO_PLACE = 5,      /* set or plan of an absent animal: all M places are taken */
+    BOUGHLADDER_NO_ROOM = 6,       /* set or plan of an absent animal: no free slot within four moves */
     BOUGHLADDER_NOBODY = 7,        /* delete of an absent animal, or evict where no place is taken */
     BOUGHLADDER_BUSY = 8,          /* the animal's counter is odd: a write was cut off */
     BOUGHLADDER_SHORT_BUFFER = 9,  /* the list needs 20 bytes for each place that is taken */
     BOUGHLADDER_NO_VICTIM = 10,    /* the hand found no victim: proved never to happen */
     BOUGHLADDER_LATE = 11,         /* set of a held animal: its stamp is later than issued, and not retired */
-    BOUGHLADDER_NOT_AS_PLANNED = 12 /* plan or propose of a held animal; a step or a plan that can't be made */
+    BOUGHLADDER_NOT_AS_PLANNED = 12 /* plan of a held animal, or a step that can't be made as it was planned */
 };
 
 /* What a call that was not refused found. */
@@ -255,20 +247,6 @@ typedef struct BoughladderPlan {
     size_t slot;
     BoughladderMove moves[BOUGHLADDER_MOST_MOVES];  /* in the order of making; 0 behind the first count */
 } BoughladderPlan;
-
-/* A plan from the office. */
-typedef struct BoughladderOfficePlan {
-    size_t count;  /* moves, at most 8; more is no plan */
-    size_t place;  /* for the final store */
-    size_t slot;
-    BoughladderMove moves[BOUGHLADDER_MOST_OFFICE_MOVES];  /* in the order of making; 0 behind the first count */
-} BoughladderOfficePlan;
-
-/* Propose. */
-typedef struct BoughladderProposal {
-    uint32_t refusal;
-    BoughladderOfficePlan plan;
-} BoughladderProposal;
 
 /* Evict. */
 typedef struct BoughladderEvicting {
@@ -365,23 +343,6 @@ uint32_t boughladder_step_enter(uint32_t *slots, size_t slots_length, uint32_t *
                                 uint64_t *items, size_t items_length, size_t place, size_t slot, uint64_t animal,
                                 uint32_t permission, uint64_t issued, uint64_t now);
 
-/* Carries out a plan from the office: its moves, 4 stores each, and the final store. It is the steps one after the
-   other, with the same words afterwards; but none is made unless all can be. Records behind the first count are not
-   looked at, and a count above 8 is 12. The reply is the refusal number, 0 where it was carried out. Refusals 1, 2, 3,
-   8, 4, as in set of that animal; then 12. */
-BOUGHLADDER_MUST_USE
-uint32_t boughladder_carry(uint32_t *slots, size_t slots_length, uint32_t *counters, size_t counters_length,
-                           uint64_t *items, size_t items_length, BoughladderOfficePlan plan, uint64_t animal,
-                           uint32_t permission, uint64_t issued, uint64_t now);
-
-/* The office's plan: plan, with up to eight moves, and no more than are needed. It changes nothing. Where it is not
-   refused, a gate with the same table carries it out; 6 says that no plan of eight moves makes room. Refusals as plan.
-   For the office's computer: a gate can call it, but it takes more stack than any other call. */
-BOUGHLADDER_MUST_USE
-BoughladderProposal boughladder_propose(const uint32_t *slots, size_t slots_length, const uint32_t *counters,
-                                        size_t counters_length, const uint64_t *items, size_t items_length,
-                                        uint64_t animal, uint32_t permission, uint64_t issued, uint64_t now);
-
 /* Takes the animal's entry away. The reply is the refusal number, 0 for success.
    Refusals 1, 2, 8, 4, 7. */
 BOUGHLADDER_MUST_USE
@@ -437,8 +398,8 @@ BoughladderJudgement boughladder_judge(const uint32_t *slots, size_t slots_lengt
    For tests of a cabinet against the published vectors. */
 uint32_t boughladder_fnv_byte(uint32_t h, uint8_t byte);
 
-/* The lent memory in one piece. Read, plain read, find, list, judge, plan and propose take a pointer to const; any
-   other call through one is a warning, in C++ an error. */
+/* The lent memory in one piece. Read, plain read, find, list, judge and plan take a pointer to const; any other call
+   through one is a warning, in C++ an error. */
 typedef struct BoughladderTable {
     uint32_t *slots;
     size_t slots_length;
@@ -540,18 +501,6 @@ static inline uint32_t boughladder_table_step_enter(BoughladderTable *table, siz
 }
 
 BOUGHLADDER_MUST_USE
-static inline uint32_t boughladder_table_carry(BoughladderTable *table, BoughladderOfficePlan plan, uint64_t animal,
-                                               uint32_t permission, uint64_t issued, uint64_t now) {
-    return boughladder_carry(BOUGHLADDER_LENT_(table), plan, animal, permission, issued, now);
-}
-
-BOUGHLADDER_MUST_USE
-static inline BoughladderProposal boughladder_table_propose(const BoughladderTable *table, uint64_t animal,
-                                                            uint32_t permission, uint64_t issued, uint64_t now) {
-    return boughladder_propose(BOUGHLADDER_LENT_(table), animal, permission, issued, now);
-}
-
-BOUGHLADDER_MUST_USE
 static inline uint32_t boughladder_table_delete(BoughladderTable *table, uint64_t animal) {
     return boughladder_delete(BOUGHLADDER_LENT_(table), animal);
 }
@@ -611,13 +560,13 @@ static inline const char *boughladder_refusal_text(uint32_t refusal) {
         case BOUGHLADDER_BAD_TIME: return "the limit is too large, now is no minute, or issued is later than now";
         case BOUGHLADDER_DAMAGED: return "a damaged word was read";
         case BOUGHLADDER_NO_PLACE: return "no vacant place for a new animal";
-        case BOUGHLADDER_NO_ROOM: return "no room for a new animal within four moves, or eight from the office";
+        case BOUGHLADDER_NO_ROOM: return "no room within four moves for a new animal";
         case BOUGHLADDER_NOBODY: return "the animal to delete is absent, or nobody is there to evict";
         case BOUGHLADDER_BUSY: return "busy: a write was cut off";
         case BOUGHLADDER_SHORT_BUFFER: return "the buffer is too short for the list";
         case BOUGHLADDER_NO_VICTIM: return "the hand found no victim";
         case BOUGHLADDER_LATE: return "late: a permission that was issued later is held";
-        case BOUGHLADDER_NOT_AS_PLANNED: return "the animal to plan for is held, or a plan can't be made as planned";
+        case BOUGHLADDER_NOT_AS_PLANNED: return "the animal to plan for is held, or a step can't be made as planned";
         default: return "no refusal number";
     }
 }

@@ -10,17 +10,15 @@ use Rattle.model.specs.Shape.{Ways}
 use Rattle.model.specs.Moves.{four_records}
 use Rattle.model.specs.Answers.{Answer, is, moves_told, value}
 use Rattle.model.specs.Calling.{Call}
-use Rattle.model.specs.Said.{plan_of, planning_of, proposal_of}
+use Rattle.model.specs.Said.{plan_of}
 use Rattle.model.specs.Promised.{CutAs, WholeAs}
 use Rattle.model.proofs.ListLaws.{bool}
 use Rattle.model.proofs.Paper.{numbered}
-use Rattle.clothes.specs.Clothes.{number, plan_clothes, plan_dressed, plan_refusal, proposal_clothes, proposal_dressed}
+use Rattle.clothes.specs.Clothes.{number, plan_clothes, plan_dressed, plan_refusal}
 use Rattle.clothes.specs.Dressed.{CutIn, WholeIn}
 use Rattle.model.specs.declared.Plan.{Plan}
 use Rattle.model.specs.declared.Planning.TheVariants as planning
-use Rattle.model.specs.declared.Proposal.{Proposal}
 use Rattle.clothes.specs.declared.BoughladderPlan.{BoughladderPlan}
-use Rattle.clothes.specs.declared.BoughladderProposal.{BoughladderProposal}
 
 module _ (W : Ways) {m m' : Mem} {c : Call} {R : Type 0} {clothes : Answer → R} {a : Answer} {r : R} (e : r ≡ clothes a) where
   pub told_whole : WholeAs W m c m' a → WholeIn W clothes m c m' r
@@ -29,23 +27,19 @@ module _ (W : Ways) {m m' : Mem} {c : Call} {R : Type 0} {clothes : Answer → R
   pub told_cut : {k : ℕ} → CutAs W m c k m' a → CutIn W clothes m c k m' r
   told_cut s = record { told = e ∙ ap clothes s.told; left = s.left }
 
--- an answer that is a plan has number 0
-refusal_is : (a : Answer) → plan_refusal (planning_of a) ≡ number a
-refusal_is a =
-    dite (ℕ_discrete (number a) 0)
-    (λ z. bool (λ b. plan_refusal (choose b planning.Planned (planning.Refused (number a))) ≡ number a) (is 10 a) (λ t. sym z) λ t. refl)
-    λ nz. subst (λ a. plan_refusal (planning_of a) ≡ number a) (sym (numbered a nz)) refl
-
--- plan, and propose
+-- plan: an answer that is a plan has number 0
 pub told_plan : (a : Answer) {b : Plan} {r : BoughladderPlan} → r ≡ plan_dressed b → b ≡ plan_of a → r ≡ plan_clothes a
 told_plan a e h =
     e ∙ ap plan_dressed h
-    ∙ ap (λ n. record { refusal = n; count = length (moves_told a); place = value a 1; slot = value a 2; moves = four_records (moves_told a) }) (refusal_is a)
+    ∙ ap (λ n. record { refusal = n; count = length (moves_told a); place = value a 1; slot = value a 2; moves = four_records (moves_told a) }) (number_is a)
+  where
+    number_is : (a : Answer) → plan_refusal (plan_of a).told ≡ number a
+    number_is a =
+        dite (ℕ_discrete (number a) 0)
+        (λ z. bool (λ b. plan_refusal (choose b planning.Planned (planning.Refused (number a))) ≡ number a) (is 10 a) (λ t. sym z) λ t. refl)
+        λ nz. subst (λ a. plan_refusal (plan_of a).told ≡ number a) (sym (numbered a nz)) refl
 
-pub told_proposal : (a : Answer) {b : Proposal} {r : BoughladderProposal} → r ≡ proposal_dressed b → b ≡ proposal_of a → r ≡ proposal_clothes a
-told_proposal a e h = e ∙ ap proposal_dressed h ∙ ap (λ n. record { refusal = n; plan = (proposal_of a).plan }) (refusal_is a)
-
--- such a promise decides: any two replies and memories that it allows are equal. Read, find, plan and propose say their reply outright
+-- such a promise decides: any two replies and memories that it allows are equal. Read, find and plan say their reply outright
 pub decides_whole : {W : Ways} {R : Type 0} {clothes : Answer → R} {m m' m'' : Mem} {c : Call} {r r' : R}
     → WholeIn W clothes m c m' r → WholeIn W clothes m c m'' r' → (r ≡ r') × (m' ≡ m'')
 decides_whole d d' = (d.told ∙ sym d'.told, d.left ∙ sym d'.left)

@@ -5,7 +5,7 @@ use mathlib.Core.List.{List}
 use Rattle.model.specs.Said.{said_evicting, said_finding, said_listing, said_reading, said_setting}
 use Rattle.judgement.specs.Said.{said}
 use Rattle.judgement.specs.declared.Judgement.{Judgement}
-use Rattle.clothes.specs.Clothes.{finding_clothes, judgement_clothes, listing_clothes, number, plan_dressed, plan_refusal, proposal_dressed, reading_clothes, setting_clothes, turned_clothes}
+use Rattle.clothes.specs.Clothes.{finding_clothes, judgement_clothes, listing_clothes, number, plan_dressed, plan_refusal, reading_clothes, setting_clothes, turned_clothes}
 use Rattle.clothes.specs.declared.BoughladderReading.{BoughladderReading}
 use Rattle.clothes.specs.declared.BoughladderFinding.{BoughladderFinding}
 use Rattle.clothes.specs.declared.BoughladderSetting.{BoughladderSetting}
@@ -17,7 +17,6 @@ use Rattle.model.specs.declared.Reading.TheVariants as reading
 use Rattle.model.specs.declared.Finding.{Finding}
 use Rattle.model.specs.declared.Setting.{Setting}
 use Rattle.model.specs.declared.Plan.{Plan}
-use Rattle.model.specs.declared.Proposal.{Proposal}
 use Rattle.model.specs.declared.Evicting.{Evicting}
 use Rattle.model.specs.declared.Listing.{Listing}
 
@@ -39,9 +38,6 @@ setting_dressed e h = h ∙ ap (λ (t : Setting). setting_clothes (said_setting 
 pub plan_dressed_by : (b : Plan) {n : ℕ} → n ≡ plan_refusal b.told
     → record { refusal = n; count = b.count; place = b.place; slot = b.slot; moves = b.moves } ≡ plan_dressed b
 plan_dressed_by b e = ap (λ n. record { refusal = n; count = b.count; place = b.place; slot = b.slot; moves = b.moves }) e
-
-pub proposal_dressed_by : (b : Proposal) {n : ℕ} → n ≡ plan_refusal b.told → record { refusal = n; plan = b.plan } ≡ proposal_dressed b
-proposal_dressed_by b e = ap (λ n. record { refusal = n; plan = b.plan }) e
 
 pub evicting_dressed : {t t' : Evicting} {hand : ℕ} {r : BoughladderEvicting} → t ≡ t' → r ≡ turned_clothes hand (said_evicting t' hand)
     → r ≡ turned_clothes hand (said_evicting t hand)

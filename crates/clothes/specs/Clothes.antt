@@ -2,18 +2,16 @@
 use Rattle.std.specs.Prelude.{ℕ, length, ℤ, pos}
 use Rattle.std.proofs.Math.Option.{get_or}
 use Rattle.model.specs.Choice.{choose}
-use Rattle.model.specs.Moves.{eight_records, four_records}
+use Rattle.model.specs.Moves.{four_records}
 use Rattle.model.specs.Answers.{Answer, hand_back, is, moves_told, paper, value}
 use Rattle.model.specs.declared.Plan.{Plan}
 use Rattle.model.specs.declared.Planning.{Planning}
 use Rattle.model.specs.declared.Planning.TheVariants as planning
-use Rattle.model.specs.declared.Proposal.{Proposal}
 use Rattle.judgement.specs.Verdict.{Verdict, sound, broken}
 use Rattle.clothes.specs.declared.BoughladderReading.{BoughladderReading}
 use Rattle.clothes.specs.declared.BoughladderFinding.{BoughladderFinding}
 use Rattle.clothes.specs.declared.BoughladderSetting.{BoughladderSetting}
 use Rattle.clothes.specs.declared.BoughladderPlan.{BoughladderPlan}
-use Rattle.clothes.specs.declared.BoughladderProposal.{BoughladderProposal}
 use Rattle.clothes.specs.declared.BoughladderEvicting.{BoughladderEvicting}
 use Rattle.clothes.specs.declared.BoughladderListing.{BoughladderListing}
 use Rattle.clothes.specs.declared.BoughladderJudgement.{BoughladderJudgement}
@@ -59,17 +57,6 @@ plan_refusal (planning.Refused n) = n
 abbrev pub plan_dressed : Plan → BoughladderPlan
 plan_dressed b =
     record { refusal = plan_refusal b.told; count = b.count; place = b.place; slot = b.slot; moves = b.moves }
-
--- propose, likewise
-abbrev pub proposal_clothes : Answer → BoughladderProposal
-proposal_clothes a =
-    record {
-      refusal = number a;
-      plan = record { count = length (moves_told a); place = value a 1; slot = value a 2; moves = eight_records (moves_told a) };
-    }
-
-abbrev pub proposal_dressed : Proposal → BoughladderProposal
-proposal_dressed b = record { refusal = plan_refusal b.told; plan = b.plan }
 
 -- evict, with the hand h that comes back; and with the hand that was passed in
 abbrev pub turned_clothes : ℕ → Answer → BoughladderEvicting

@@ -1,13 +1,13 @@
 // The C clothes of each answer: document 01's number and values of it, as the fields of a reply.
 ghost use Rattle.std.specs.Prelude.{◌≡◌, List, ℕ, ◌<◌};
-ghost use Rattle.model.specs.Said.{said_reading, said_finding, said_setting, said_deleting, said_evicting, said_listing, said_starting, said_move, said_entry, said_carrying};
+ghost use Rattle.model.specs.Said.{said_reading, said_finding, said_setting, said_deleting, said_evicting, said_listing, said_starting, said_move, said_entry};
 ghost use Rattle.judgement.specs.Said.{said};
-ghost use Rattle.clothes.specs.Clothes.{number, reading_clothes, finding_clothes, setting_clothes, plan_dressed, plan_refusal, proposal_dressed, turned_clothes, listing_clothes, judgement_clothes};
+ghost use Rattle.clothes.specs.Clothes.{number, reading_clothes, finding_clothes, setting_clothes, plan_dressed, plan_refusal, turned_clothes, listing_clothes, judgement_clothes};
 
 use judgement::Judgement;
 use model::{
-    Carrying, Deleting, Evicting, Finding, Listing, MoveRecord, OfficePlan, Plan, Planning,
-    Proposal, Reading, Setting, Starting, Stepping,
+    Deleting, Evicting, Finding, Listing, MoveRecord, Plan, Planning, Reading, Setting, Starting,
+    Stepping,
 };
 
 // The replies. In each, `refusal` is document 01's number, 0 for success; what a call does not tell is 0.
@@ -58,14 +58,6 @@ pub struct BoughladderPlan {
     pub place: usize,
     pub slot: usize,
     pub moves: [MoveRecord; 4],
-}
-
-// Propose: a plan with up to eight moves.
-#[repr(C)]
-#[derive(Drop)]
-pub struct BoughladderProposal {
-    pub refusal: u32,
-    pub plan: OfficePlan,
 }
 
 #[repr(C)]
@@ -192,24 +184,6 @@ pub fn dress_stepping(told: Stepping) -> u32
     match told {
         Stepping::Made => 0,
         Stepping::Refused(n) => n,
-    }
-}
-
-pub fn dress_proposal(proposal: Proposal) -> BoughladderProposal
-    ensures { result ≡ proposal_dressed proposal }
-{
-    let told = proposal.told;
-    let refusal = plan_refusal(told);
-    let plan = proposal.plan;
-    BoughladderProposal { refusal, plan }
-}
-
-pub fn dress_carrying(told: Carrying) -> u32
-    ensures { result ≡ number (said_carrying told) }
-{
-    match told {
-        Carrying::CarriedOut => 0,
-        Carrying::Refused(n) => n,
     }
 }
 

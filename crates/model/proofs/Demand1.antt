@@ -17,7 +17,7 @@ use Rattle.model.specs.Age.{bad_time, judge, late, bad_grant}
 use Rattle.model.specs.Clock.{Victim, victim}
 use Rattle.model.specs.Listing.{listing, live_count}
 use Rattle.model.specs.Calls.{Outcome, asked, busy, call, delete_at, enter_at, evict_at, evict_slot, find_at, held, hit, home_damage, refuse}
-use Rattle.model.specs.Calls.{carry_at, final_at, may_carry, may_enter, may_move, move_at, plan_at, plan_new, serve_at, set_at, slot_of, some_live, stopped, tell, vacant_place, visited, search_damage}
+use Rattle.model.specs.Calls.{final_at, may_enter, may_move, move_at, plan_at, plan_new, serve_at, set_at, slot_of, some_live, stopped, tell, vacant_place, visited, search_damage}
 use Rattle.model.specs.Lent.{lent_call}
 use Rattle.model.specs.AnyTable.{Table, Write, make_all}
 use Rattle.model.specs.Demands.{Demand1}
@@ -25,7 +25,7 @@ use Rattle.model.specs.Ours.{ours, traced, wipe}
 use Rattle.model.specs.declared.Grant.{Grant}
 use Rattle.model.proofs.Verdict.{of_verdict}
 use Rattle.model.proofs.ListLaws.{true_false, bool}
-use Rattle.model.specs.Calling.{Call, Event, make_fresh, read, did, serve, find, set_animal, delete, evict, write_list, plan_set, step_move, step_enter, carry}
+use Rattle.model.specs.Calling.{Call, Event, make_fresh, read, did, serve, find, set_animal, delete, evict, write_list, plan_set, step_move, step_enter}
 use mathlib.Core.Logic.{dite}
 use native.Mathlib.Decide.{ℕ_discrete}
 use borrow.Author.Tests.{leb-false, eqb-true}
@@ -133,9 +133,6 @@ module _ (Y : Shape) (m : Mem) where
   clean (step_enter g p i) =
       asks g.animal (bad_grant g) (final_at Y m g p i)
       (one_by_one (may_enter Y m g.animal p i) (λ n e. true_false (ap is_refusal e) refl) (refusal 12 refl))
-  clean (carry g vs p i) =
-      asks g.animal (bad_grant g) (carry_at Y m g vs p i)
-      (one_by_one (may_carry Y m g.animal vs p i) (λ n e. true_false (ap is_refusal e) refl) (refusal 12 refl))
 
 -- a table whose refusals are from the list and have no writes meets demand 1
 pub quiet_refusals : (T : Table) → ((m : Mem) (e : Event) (n : ℕ) → T.answer m e ≡ refused n → Listed n × (T.writes m e ≡ [])) → Demand1 T

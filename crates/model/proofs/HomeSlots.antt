@@ -1,19 +1,17 @@
--- The home slots of an animal are the slots of its two buckets; and what it goes by whether it is held. Assumes nothing.
+-- The home slots of an animal are the slots of its two buckets. Assumes nothing.
 use Prim.Native.Nat.{ℕ, ◌+◌, ◌-◌, ◌*◌, ◌/◌, ◌<◌}
 use native.Mathlib.Nat.{mod-lt, div-add-mod'}
 use native.Mathlib.Omega.{arith}
 use native.Mathlib.Decide.{ℕ_discrete}
-use mathlib.Core.Path.{◌≡◌, refl, ap, ap₂, ◌∙◌}
+use mathlib.Core.Path.{◌≡◌}
 use mathlib.Core.Logic.{◌≢◌, inl, inr, ⊎_elim, dite}
-use mathlib.Core.Option.{Option, none, some}
 use mathlib.Core.List.Memᴰ
 use mathlib.Core.List.Memᴰ.{append_cases}
 use mathlib.Core.List.{Memᴰ as In}
-use lib.ListN.{length, get_or}
+use lib.ListN.{length}
 use lib.Arith.{digits_div}
-use Rattle.model.specs.Memory.{Mem, mem, place, word}
+use Rattle.model.specs.Memory.{Mem, word}
 use Rattle.model.specs.Shape.{Home, Shape, bucket, homes, second_of, slots_of}
-use Rattle.model.specs.Calls.{held, hit, hits, place_at}
 use Rattle.model.proofs.ListLaws.{in_range, inside_held, range_in}
 
 module _ (Y : Shape) where
@@ -39,12 +37,3 @@ module _ (Y : Shape) where
   pub in_home : (x i : ℕ) → In i (homes Y x) → Home Y x (bucket Y i)
   in_home x i q =
       ⊎_elim (λ r. inl (slots_in (Y.first_of x) r)) (λ r. inr (slots_in (second_of Y x) r)) (append_cases (slots_of Y (Y.first_of x)) q)
-
--- who is held goes by slots and items, and by no counter
-place_alike : (m m' : Mem) → m.slots ≡ m'.slots → (o : Option ℕ) → place_at m o ≡ place_at m' o
-place_alike m m' e none = refl
-place_alike m m' e (some i) = ap (λ T. some (place (get_or T i 0))) e
-
-pub held_alike : (Y : Shape) (m m' : Mem) → m.slots ≡ m'.slots → m.items ≡ m'.items → (x : ℕ) → held Y m x ≡ held Y m' x
-unfolding hit hits
-held_alike Y m m' es ei x = ap₂ (λ T l. place_at m (hit Y (mem T m.counters l) x)) es ei ∙ place_alike m m' es (hit Y m' x)

@@ -32,19 +32,19 @@ use Rattle.model.proofs.Linked.{leaves_lent}
 use Rattle.model.proofs.MaySteps.{enter_if, enter_only, move_if, move_only}
 
 -- a refusal is no other answer
-pub differs : {A : Type 0} {a : Answer} → is_refusal a ≡ false → (k : ℕ) → refused k ≡ a → A
+differs : {A : Type 0} {a : Answer} → is_refusal a ≡ false → (k : ℕ) → refused k ≡ a → A
 differs n k e = true_false (sym (ap is_refusal e)) n
 
--- a call whose test b decides between `made`, which answers a, and 12; P is what the test says
+-- a step whose test b decides between `made`, which answers a, and 12; P is what the test says
 module _ (W : Ways) (m : Mem) (g : Grant) (b : Bool) (a : Answer) (made : Outcome) (told : made.answer ≡ a) (no_refusal : is_refusal a ≡ false)
     (P : Type 0) (yes : P → b ≡ true) (only : b ≡ true → P) where
   abbrev rest : Outcome
   rest = choose b made (refuse 12)
 
-  pub step_made : ItsTurn W m g → P → in_its_turn W m g rest ≡ made
+  step_made : ItsTurn W m g → P → in_its_turn W m g rest ≡ made
   step_made t p = in_turn W m g rest t ∙ ap (λ b. choose b made (refuse 12)) (yes p)
 
-  pub step_iff : ((in_its_turn W m g rest).answer ≡ a) ↔ (ItsTurn W m g × P)
+  step_iff : ((in_its_turn W m g rest).answer ≡ a) ↔ (ItsTurn W m g × P)
   step_iff = (
     λ e. let t = turned W m g rest (λ k h f. differs no_refusal k (sym f ∙ e)) in
         (t.0, only (passed (sym (ap (λ (o : Outcome). o.answer) t.1) ∙ e))),
@@ -54,13 +54,13 @@ module _ (W : Ways) (m : Mem) (g : Grant) (b : Bool) (a : Answer) (made : Outcom
       passed : rest.answer ≡ a → b ≡ true
       passed e = bool (λ c. (choose c made (refuse 12)).answer ≡ a → c ≡ true) b (λ z f. refl) (λ z f. differs no_refusal 12 f) e
 
-  pub step_else : ItsTurn W m g → ¬ P → (in_its_turn W m g rest).answer ≡ refused 12
+  step_else : ItsTurn W m g → ¬ P → (in_its_turn W m g rest).answer ≡ refused 12
   step_else t n =
       ap (λ (o : Outcome). o.answer) (in_turn W m g rest t)
       ∙ bool (λ c. b ≡ c → (choose c made (refuse 12)).answer ≡ refused 12) b (λ z e. absurd (n (only e))) (λ z e. refl) refl
 
   -- what is made where it answers so
-  pub step_blocks : (in_its_turn W m g rest).answer ≡ a → in_its_turn W m g rest ≡ made
+  step_blocks : (in_its_turn W m g rest).answer ≡ a → in_its_turn W m g rest ≡ made
   step_blocks e = let h = step_iff.0 e in step_made h.0 h.1
 
 module _ (W : Ways) (m : Mem) (g : Grant) where
@@ -71,7 +71,7 @@ module _ (W : Ways) (m : Mem) (g : Grant) where
   x = g.animal
 
   -- before its turn a call with set's inputs answers as set does
-  pub as_set : (rest : Outcome) → ¬ ItsTurn W m g → (in_its_turn W m g rest).answer ≡ (lent_call W m (set_animal g)).answer
+  as_set : (rest : Outcome) → ¬ ItsTurn W m g → (in_its_turn W m g rest).answer ≡ (lent_call W m (set_animal g)).answer
   as_set rest n = ap (λ (o : Outcome). o.answer) (before_turn W m g n rest (set_at Y m g (held Y m x)))
 
   module _ (v : MoveRecord) where

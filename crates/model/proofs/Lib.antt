@@ -43,7 +43,6 @@ pub mod StepSet
 pub mod StepEvict
 pub mod MaySteps
 pub mod StepInSteps
-pub mod StepCarry
 pub mod MoveKeeps
 pub mod Steps
 pub mod Runs
@@ -61,9 +60,6 @@ pub mod NoneRetired
 pub mod Linked
 pub mod InSteps
 pub mod PlanSaid
-pub mod OneByOne
 pub mod CarriedOut
 pub mod PlanRoom
-pub mod FromOffice
-pub mod Proposals
 pub mod Theorems

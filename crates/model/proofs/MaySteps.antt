@@ -1,20 +1,19 @@
--- The tests of a step are wish 7's conditions, those of an office's plan wish 8's, and a move that may be made is a legal one. Assumes nothing.
+-- The tests of a step are wish 7's conditions, and a move that may be made is a legal one. Assumes nothing.
 use Prim.Native.Nat.{ℕ}
 use mathlib.Core.Path.{◌≡◌, refl, ap}
 use mathlib.Core.Logic.{inl, inr}
 use mathlib.Core.Bool.{Bool, true, false, not}
 use mathlib.Core.Option.{Option, none, some}
-use mathlib.Core.List.{List, [], ◌∷◌}
+use mathlib.Core.List.{List}
 use lib.ListN.{length, get_or}
-use lib.Dec.{eqb, leb, ltb}
-use borrow.Author.Tests.{eq-eqb, eqb-false, eqb-true, le-leb, leb-true, lt-ltb, ltb-true, ne_eqb, not-true}
+use lib.Dec.{eqb, ltb}
+use borrow.Author.Tests.{eq-eqb, eqb-false, eqb-true, lt-ltb, ltb-true, ne_eqb, not-true}
 use Rattle.model.specs.Choice.{choose, one_of, there}
 use Rattle.model.specs.Memory.{Mem, animal, damaged, tag, word}
 use Rattle.model.specs.Shape.{Home, Shape, bucket, other, pair, second_of}
-use Rattle.model.specs.Moves.{Legal, Run, as_move, as_moves, moved}
-use Rattle.model.specs.Calls.{after_moves, held, may_carry, may_enter, may_move, may_moves}
+use Rattle.model.specs.Moves.{Legal, as_move}
+use Rattle.model.specs.Calls.{held, may_enter, may_move}
 use Rattle.model.specs.InSteps.{MayEnter, MayMove}
-use Rattle.model.specs.FromOffice.{MayCarry, MayMoves}
 use Rattle.model.specs.declared.MoveRecord.{MoveRecord}
 use Rattle.model.proofs.ListLaws.{bool, true_false}
 use Rattle.model.proofs.Lent.{and_is}
@@ -111,31 +110,3 @@ module _ (Y : Shape) where
           eq-eqb (word m i) 0 h.free,
           home_if x (bucket Y i) h.home,
         )
-
-  -- moves in turn
-  pub moves_only : (T : List ℕ) (vs : List MoveRecord) → may_moves Y T vs ≡ true → MayMoves Y T vs
-  moves_only T [] e = tt
-  moves_only T (v ∷ vs) e =
-      let a = and_is (may_move Y T v) _ e in (move_only T v a.0, moves_only (moved T (as_move v)) vs a.1)
-
-  pub moves_if : (T : List ℕ) (vs : List MoveRecord) → MayMoves Y T vs → may_moves Y T vs ≡ true
-  moves_if T [] h = refl
-  moves_if T (v ∷ vs) h = rw (move_if T v h.0) (moves_if (moved T (as_move v)) vs h.1)
-
-  pub moves_legal : (T : List ℕ) (vs : List MoveRecord) → MayMoves Y T vs → Run Y.layout T (as_moves vs)
-  moves_legal T [] h = tt
-  moves_legal T (v ∷ vs) h = (may_legal T v h.0, moves_legal (moved T (as_move v)) vs h.1)
-
-  module _ (m : Mem) (x : ℕ) (vs : List MoveRecord) (p i : ℕ) where
-    pub carry_only : may_carry Y m x vs p i ≡ true → MayCarry Y m x vs p i
-    carry_only e =
-        let a = and_is (leb (length vs) 8) _ e in
-        let b = and_is (may_moves Y m.slots vs) _ a.1 in
-        record {
-          few = leb-true (length vs) 8 a.0;
-          moves = moves_only m.slots vs b.0;
-          enters = enter_only (after_moves Y m vs) x p i b.1;
-        }
-
-    pub carry_if : MayCarry Y m x vs p i → may_carry Y m x vs p i ≡ true
-    carry_if h = rw (le-leb (length vs) 8 h.few, moves_if m.slots vs h.moves) (enter_if (after_moves Y m vs) x p i h.enters)

@@ -1,5 +1,5 @@
 -- A move that may be made changes nothing that the next step asks first, on any memory: no counter's parity, no slot's damage, and who was
--- absent stays absent, who was held stays held. Assumes nothing.
+-- absent stays absent. Assumes nothing.
 use Prim.Native.Nat.{ℕ, ◌*◌, ◌%◌, ◌<◌, ◌≤◌}
 use native.Mathlib.Omega.{arith}
 use native.Mathlib.Decide.{ℕ_discrete, dec_lt}
@@ -7,8 +7,8 @@ use mathlib.Core.Path.{◌≡◌, refl, sym, ap, ◌∙◌}
 use mathlib.Core.Logic.{dite}
 use mathlib.Core.Bool.{true, false}
 use mathlib.Core.Option.{Option, none, some}
-use mathlib.Core.List.{List, [], ◌∷◌, Memᴰ as In}
-use lib.ListN.{length, get_or, set, length-set}
+use mathlib.Core.List.{List, Memᴰ as In}
+use lib.ListN.{length, get_or, length-set}
 use lib.Seq.{get_or-set_same, get_or-set_other, set_out}
 use lib.Dec.{eqb}
 use Rattle.model.specs.Choice.{choose, there}
@@ -16,13 +16,12 @@ use Rattle.model.specs.Memory.{Mem, animal, damaged, place, tag, word}
 use Rattle.model.specs.Shape.{Home, Shape, bucket, counter_of, homes}
 use Rattle.model.specs.Stores.{whole}
 use Rattle.model.specs.Moves.{Legal, as_move}
-use Rattle.model.specs.Calls.{after_moves, busy, held, hit, hits, home_damage, move_block, place_at}
+use Rattle.model.specs.Calls.{busy, held, hit, hits, home_damage, move_block, place_at}
 use Rattle.model.specs.InSteps.{MayMove}
-use Rattle.model.specs.FromOffice.{MayMoves}
 use Rattle.model.specs.declared.MoveRecord.{MoveRecord}
 use Rattle.model.proofs.ShapeLaws.{Lawful}
 use Rattle.model.proofs.ListLaws.{First, both_no, both_yes, first_is, first_same, found, missing, true_false}
-use Rattle.model.proofs.HomeSlots.{held_alike, home_in, in_home}
+use Rattle.model.proofs.HomeSlots.{home_in, in_home}
 use Rattle.model.proofs.MovedWords.{across, at_else, at_from, at_to}
 use Rattle.model.proofs.KeepBlocks.{free_sound, up}
 use Rattle.model.proofs.MaySteps.{may_legal}
@@ -33,10 +32,6 @@ parity l c j =
     dite (dec_lt c (length l))
     (λ h. dite (ℕ_discrete j c) (λ e. let k : c < length (up l c) = rw length-set h in simp (e, get_or-set_same) (omega arith)) λ ne. simp get_or-set_other)
     λ h. let k : length l ≤ c = omega arith in simp set_out
-
--- a move leaves the run as long as it was
-moved_long : (Y : Shape) (m : Mem) (v : MoveRecord) → length (whole (move_block Y m.slots (as_move v)) m).slots ≡ length m.slots
-moved_long Y m v = length-set (set m.slots v.to (word m v.from)) v.from 0 ∙ length-set m.slots v.to (word m v.from)
 
 -- the hit, or none
 pub no_hit : (m : Mem) (o : Option ℕ) → place_at m o ≡ none → o ≡ none
@@ -104,52 +99,3 @@ module _ (Y : Shape) (L : Lawful Y) (m : Mem) (v : MoveRecord) (h : MayMove Y m.
           go (found q t) f e = true_false {b = true} refl (ap there e)
           go (missing n) (missing n') e = refl
           go (missing n) (found {i = i} q t) e = true_false t (no_hits n i q)
-
-      -- and none is lost
-      had_no_hits : ((i : ℕ) → In i (homes Y x) → hits Y m' x i ≡ false) → (i : ℕ) → In i (homes Y x) → hits Y m x i ≡ false
-      unfolding hits tag
-      had_no_hits after i q =
-          dite (ℕ_discrete i v.from) (λ e. rw e (from (in_home Y x v.from (rw e at q)))) λ ne.
-          dite (ℕ_discrete i v.to) (λ e. rw (e, h.free) (both_no (tag 0) (Y.tag_of x) (animal m.items (place 0)) x λ t a. absurd (omega (arith, L.tag_low x)))) λ ne'.
-          rw (← at_else Y.layout L.other_twice l i ne' ne) (after i q)
-        where
-          w : ℕ
-          w = word m v.from
-
-          from : Home Y x (bucket Y v.from) → choose (eqb (tag w) (Y.tag_of x)) (eqb (animal m.items (place w)) x) false ≡ false
-          from b =
-              both_no (tag w) (Y.tag_of x) (animal m.items (place w)) x λ t a.
-              let there : Home Y x (bucket Y v.to) = across Y.layout L.other_twice (rw t at h.goes) b in
-              let long' : length m'.slots ≡ Y.buckets * Y.layout.ways = moved_long Y m v ∙ long in
-              let moved_there : word m' v.to ≡ w = at_to Y.layout L.other_twice l in
-              true_false (rw moved_there (both_yes t a)) (after v.to (home_in Y m' long' (rw moved_there h.occupied) there))
-
-      pub away_before : held Y m' x ≡ none → held Y m x ≡ none
-      unfolding hit
-      away_before e = ap (place_at m) (go (first_is (hits Y m x) (homes Y x)) (first_is (hits Y m' x) (homes Y x)) (no_hit m' (hit Y m' x) e))
-        where
-          go : {o o' : Option ℕ} → First (hits Y m x) (homes Y x) o → First (hits Y m' x) (homes Y x) o' → o' ≡ none → o ≡ none
-          go f (found q t) e = true_false {b = true} refl (ap there e)
-          go (missing n) (missing n') e = refl
-          go (found {i = i} q t) (missing n') e = true_false t (had_no_hits n' i q)
-
--- so it is through moves that may be made in turn
-module _ (Y : Shape) (L : Lawful Y) (x : ℕ) where
-  -- the counters of the moves play no part
-  uncounted : (m : Mem) (v : MoveRecord) (vs : List MoveRecord)
-      → held Y (after_moves Y (whole (move_block Y m.slots (as_move v)) m) vs) x ≡ held Y (after_moves Y m (v ∷ vs)) x
-  uncounted m v vs = held_alike Y (after_moves Y (whole (move_block Y m.slots (as_move v)) m) vs) (after_moves Y m (v ∷ vs)) refl refl x
-
-  pub away_through : (vs : List MoveRecord) (m : Mem) → length m.slots ≡ Y.buckets * Y.layout.ways → MayMoves Y m.slots vs
-      → held Y m x ≡ none → held Y (after_moves Y m vs) x ≡ none
-  away_through [] m long h e = e
-  away_through (v ∷ vs) m long h e =
-      sym (uncounted m v vs)
-      ∙ away_through vs (whole (move_block Y m.slots (as_move v)) m) (moved_long Y m v ∙ long) h.1 (away_later Y L m v h.0 x long e)
-
-  pub away_at_first : (vs : List MoveRecord) (m : Mem) → length m.slots ≡ Y.buckets * Y.layout.ways → MayMoves Y m.slots vs
-      → held Y (after_moves Y m vs) x ≡ none → held Y m x ≡ none
-  away_at_first [] m long h e = e
-  away_at_first (v ∷ vs) m long h e =
-      away_before Y L m v h.0 x long
-      (away_at_first vs (whole (move_block Y m.slots (as_move v)) m) (moved_long Y m v ∙ long) h.1 (uncounted m v vs ∙ e))

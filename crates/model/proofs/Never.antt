@@ -37,7 +37,7 @@ use Rattle.model.proofs.StepEvict.{cleared_animal}
 use Rattle.model.proofs.Steps.{step}
 use Rattle.model.proofs.OnWellFormed.{answer_is, cut_is, lawY}
 use Rattle.model.proofs.Demands.{same_story, well_story}
-use Rattle.model.specs.Calling.{set_animal, Call, about, HasCut, gone, read, serve, find, delete, evict, write_list, plan_set, step_move, step_enter, carry}
+use Rattle.model.specs.Calling.{set_animal, Call, about, HasCut, gone, read, serve, find, delete, evict, write_list, plan_set, step_move, step_enter}
 
 -- no block takes an entry away
 abbrev Keeps : List Block → Type 0
@@ -205,7 +205,6 @@ module _ (Y : Shape) (m : Mem) where
   kept (plan_set q) h x ne = absurd h
   kept (step_move q v) h x ne = absurd h
   kept (step_enter q p i) h x ne = absurd h
-  kept (carry q vs p i) h x ne = absurd h
 
 -- the walk finds the animal
 walk_sound : (M : ℕ) (l : List ℕ) (x p : ℕ) → walk_to l x M 0 ≡ some p → animal l p ≡ x

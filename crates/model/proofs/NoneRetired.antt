@@ -12,15 +12,15 @@ use mathlib.Core.List.Memᴰ.{tail}
 use mathlib.Core.List.{List, [], ◌∷◌, Memᴰ as In}
 use lib.ListN.{length, length-set, replicate, set, get_or-eq_default}
 use lib.Seq.{get_or-set_other, get_or-set_same}
-use lib.Dec.{eqb, leb, ltb}
+use lib.Dec.{eqb, leb}
 use Rattle.model.specs.Choice.{choose}
 use Rattle.model.specs.Memory.{Mem, animal, recent, stamp}
 use Rattle.model.specs.Shape.{Ways}
-use Rattle.model.specs.Calling.{Event, carry, delete, did, evict, find, make_fresh, plan_set, read, serve, set_animal, step_enter, step_move, write_list}
-use Rattle.model.specs.Answers.{Answer, carried_out, entry_made, refused, says_fresh}
+use Rattle.model.specs.Calling.{Event, delete, did, evict, find, make_fresh, plan_set, read, serve, set_animal, step_enter, step_move, write_list}
+use Rattle.model.specs.Answers.{refused, says_fresh}
 use Rattle.model.specs.Age.{retired_mark}
 use Rattle.model.specs.AnyTable.{Table, beside, leaves}
-use Rattle.model.specs.Row.{Row, Turn, fill, note, passed, row_bad_grant, row_bad_time, row_clock, row_count, row_delete, row_event, row_evict, row_fills, row_late, row_new, row_read, row_serve, row_set, stay, walk_to}
+use Rattle.model.specs.Row.{Row, Turn, fill, note, passed, row_bad_grant, row_bad_time, row_clock, row_count, row_delete, row_enter, row_event, row_evict, row_late, row_new, row_read, row_serve, row_set, stay, walk_to}
 use Rattle.model.specs.Demands.{Demand2, places}
 use Rattle.model.specs.Retired.{Brings, MinuteFits, NoneRetired}
 use Rattle.model.specs.declared.Grant.{Grant}
@@ -108,9 +108,9 @@ module _ (M told : ℕ) (l : List ℕ) (d : Dated l) where
   asked_fine : (x : ℕ) (bad : Bool) (r : Row) → (bad ≡ false → Fine r) → Fine (choose (eqb x 0) (stay l (refused 2)) (choose bad (stay l (refused 3)) r))
   asked_fine x bad r h = fine (eqb x 0) 2 _ λ _. fine bad 3 r h
 
-  fills_fine : (a : Answer) (g : Grant) → g.issued ≢ retired_mark → (p : ℕ) (o : Option ℕ) → Fine (row_fills M a told l g p o)
-  fills_fine a g ne p (some q) = d
-  fills_fine a g ne p none =
+  enter_fine : (g : Grant) → g.issued ≢ retired_mark → (p : ℕ) (o : Option ℕ) → Fine (row_enter M told l g p o)
+  enter_fine g ne p (some q) = d
+  enter_fine g ne p none =
       fine (leb M p) 12 _ λ _. fine (not (eqb (animal l p) 0)) 12 _ λ _. fine (eqb told 12) 12 _ λ _.
       filled l p g.animal g.permission g.issued 1 ne d
 
@@ -129,10 +129,7 @@ module _ (M told : ℕ) (l : List ℕ) (d : Dated l) where
   event_fine (did (step_move g v)) h = asked_fine g.animal (row_bad_grant M g) _ λ _. d
   event_fine (did (step_enter g p i)) h =
       asked_fine g.animal (row_bad_grant M g) _ λ b.
-      fills_fine entry_made g (issue_dated g (h g (inr (inl (p, i, head refl)))) b) p (walk_to l g.animal M 0)
-  event_fine (did (carry g vs p i)) h =
-      asked_fine g.animal (row_bad_grant M g) _ λ b. fine (ltb 8 (length vs)) 12 _ λ _.
-      fills_fine carried_out g (issue_dated g (h g (inr (inr (vs, p, i, head refl)))) b) p (walk_to l g.animal M 0)
+      enter_fine g (issue_dated g (h g (inr (p, i, head refl))) b) p (walk_to l g.animal M 0)
 
 -- a run of calls keeps the row dated
 run_dated : (T : Table) (M : ℕ) (m : Mem) (l : List ℕ) (es : List Event) → ((g : Grant) → Brings g es → MinuteFits g)
@@ -143,8 +140,7 @@ run_dated T M m l (e ∷ es) h d =
   where
     brings_on : {g : Grant} {cs ds : List Event} → ((x : Event) → In x cs → In x ds) → Brings g cs → Brings g ds
     brings_on f (inl q) = inl (f _ q)
-    brings_on f (inr (inl (p, i, q))) = inr (inl (p, i, f _ q))
-    brings_on f (inr (inr (vs, p, i, q))) = inr (inr (vs, p, i, f _ q))
+    brings_on f (inr (p, i, q)) = inr (p, i, f _ q)
 
     first_of : (x : Event) → In x (e ∷ []) → In x (e ∷ es)
     first_of x (head q) = head q

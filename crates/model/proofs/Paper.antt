@@ -6,7 +6,7 @@ use mathlib.Core.Option.{Option}
 use mathlib.Core.List.{List, [], ◌∷◌}
 use lib.ListN.{get_or, drop}
 use lib.IntN.{ℤ, pos}
-use Rattle.model.specs.Answers.{Answer, Paper, absent, ahead, at_place, deleted, evicted, fresh, listed, old, paper, refused, started, stored, planned, move_made, entry_made, carried_out, moves_from}
+use Rattle.model.specs.Answers.{Answer, Paper, absent, ahead, at_place, deleted, evicted, fresh, listed, old, paper, refused, started, stored, planned, move_made, entry_made, moves_from}
 use Rattle.model.proofs.Records.{numbers_back}
 use mathlib.Core.Logic.{◌≢◌}
 
@@ -24,8 +24,7 @@ back_from o (suc (suc (suc (suc (suc (suc (suc (suc zero)))))))) vs = listed (ge
 back_from o (suc (suc (suc (suc (suc (suc (suc (suc (suc zero))))))))) vs = at_place (get_or vs 0 0)
 back_from o (suc (suc (suc (suc (suc (suc (suc (suc (suc (suc zero)))))))))) vs = planned (moves_from (drop 2 vs)) (get_or vs 0 0) (get_or vs 1 0)
 back_from o (suc (suc (suc (suc (suc (suc (suc (suc (suc (suc (suc zero))))))))))) vs = move_made
-back_from o (suc (suc (suc (suc (suc (suc (suc (suc (suc (suc (suc (suc zero)))))))))))) vs = entry_made
-back_from o (suc (suc (suc (suc (suc (suc (suc (suc (suc (suc (suc (suc (suc n))))))))))))) vs = carried_out
+back_from o (suc (suc (suc (suc (suc (suc (suc (suc (suc (suc (suc (suc n)))))))))))) vs = entry_made
 
 back : Paper → Answer
 back r = go r.values
@@ -50,7 +49,6 @@ read_back (at_place p) = refl
 read_back (planned vs p i) = ap (λ vs. planned vs p i) (numbers_back vs)
 read_back move_made = refl
 read_back entry_made = refl
-read_back carried_out = refl
 
 pub paper_injective : (a b : Answer) → paper a ≡ paper b → a ≡ b
 paper_injective a b e = sym (read_back a) ∙ ap back e ∙ read_back b
@@ -71,4 +69,3 @@ numbered (at_place p) h = absurd (h refl)
 numbered (planned vs p i) h = absurd (h refl)
 numbered move_made h = absurd (h refl)
 numbered entry_made h = absurd (h refl)
-numbered carried_out h = absurd (h refl)

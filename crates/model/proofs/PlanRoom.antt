@@ -1,84 +1,94 @@
--- Wish 7, on every well-formed table and so after every run of finished calls from fresh: a plan has the fewest moves at its moment, and
--- a finished call, a step among them, keeps the answer of every animal that it is not about. Assumes nothing.
-use Prim.Native.Nat.{ℕ}
+-- Wish 7, after every run of finished calls from fresh: a plan has the fewest moves at its moment, and a finished call, a step among them,
+-- keeps the answer of every animal that it is not about. Assumes nothing.
+use Prim.Native.Nat.{ℕ, ◌≤◌}
 use native.Mathlib.Omega.{arith}
 use mathlib.Core.Path.{◌≡◌, sym, ap, ◌∙◌, subst}
 use mathlib.Core.Logic.{◌≢◌, ⊎_elim}
 use mathlib.Core.Bool.{Bool, true, false}
-use mathlib.Core.Option.{none, some}
+use mathlib.Core.Option.{none}
 use mathlib.Core.List.{List}
 use lib.ListN.{length}
 use lib.Seq.{take_all}
 use lib.Dec.{eqb}
 use Rattle.model.specs.Choice.{choose}
 use Rattle.model.specs.Memory.{Mem}
-use Rattle.model.specs.Shape.{Home, Shape, Ways, bucket, right_lengths, shape_of}
+use Rattle.model.specs.Shape.{Home, Shape, Ways, bucket, pair, shape_of}
 use Rattle.model.specs.Moves.{Run, as_moves}
+use Rattle.model.specs.Visits.{free_slot, stop_bucket}
 use Rattle.model.specs.Calling.{about, did, plan_set}
 use Rattle.model.specs.Answers.{Answer, planned, refused}
 use Rattle.model.specs.Age.{bad_time, judge}
-use Rattle.model.specs.Calls.{held, reading, refuse, tell}
+use Rattle.model.specs.Calls.{held, moves_found, reading, refuse, stopped, tell, visited}
 use Rattle.model.specs.Row.{walk_to}
 use Rattle.model.specs.AnyTable.{Table, Write, cut_at, leaves, make_all}
-use Rattle.model.specs.Demands.{GoodInputs, SeenBy, reads, shape_in, table}
+use Rattle.model.specs.Demands.{GoodInputs, Story, SeenBy, reads, shape_in, table}
 use Rattle.model.specs.Ours.{ours}
 use Rattle.model.specs.WellFormed.{WellFormed}
-use Rattle.model.specs.InSteps.{OthersKept, PlanRoom, PlanRoomy}
+use Rattle.model.specs.InSteps.{OthersKept, PlanRoom}
 use Rattle.model.specs.declared.Grant.{Grant}
 use Rattle.model.specs.declared.MoveRecord.{MoveRecord}
 use Rattle.model.proofs.ListLaws.{true_false}
 use Rattle.model.proofs.Lent.{alike_reading, alike_shape, well_alike}
+use Rattle.model.proofs.Records.{length_records}
+use Rattle.model.proofs.Search.{length_climb}
 use Rattle.model.proofs.ReadWalk.{held_walk, read_walk}
 use Rattle.model.proofs.Demand1.{is_refusal, judged}
-use Rattle.model.proofs.OnWellFormed.{roomy_on, seen_on, well_on}
-use Rattle.model.proofs.Demands.{same_story, well_story}
-use Rattle.model.proofs.InSteps.{AsFound, as_found, plan_is_sets}
-use Rattle.model.proofs.CarriedOut.{plan_few, plan_final, plan_moves, plan_shortest}
+use Rattle.model.proofs.OnWellFormed.{seen_on, well_on}
+use Rattle.model.proofs.Demands.{our_room, same_story, well_story}
+use Rattle.model.proofs.InSteps.{as_found, plan_is_sets}
+use Rattle.model.proofs.CarriedOut.{plan_final, plan_moves, plan_shortest}
 
--- the memory m is well-formed, with the lengths of m₀
-module _ (W : Ways) (m₀ : Mem) (right : right_lengths W m₀ ≡ true) (m : Mem) (w : WellFormed (shape_of W m₀) m) where
+module _ (W : Ways) (s : Story W) where
   abbrev O : Table
   O = ours W
 
-  abbrev Z : Shape
-  Z = shape_of W m₀
+  abbrev m : Mem
+  m = table W O s
 
+  abbrev Z : Shape
+  Z = shape_in W s
+
+  -- the lengths are still those that fresh was given
   same : shape_of W m ≡ Z
-  same = alike_shape W m₀ right (well_alike W m₀ right w)
+  same = alike_shape W s.memory s.right (well_alike W s.memory s.right (well_story W s))
+
+  module _ (g : Grant) (good : GoodInputs g) (away : walk_to m.items g.animal Z.places 0 ≡ none) where
+    absent : held (shape_of W m) m g.animal ≡ none
+    absent = subst (λ Y. held Y m g.animal ≡ none) (sym same) (held_walk Z m (well_story W s) g.animal good.real ∙ away)
 
   module _ (g : Grant) (vs : List MoveRecord) (p i : ℕ) (e : O.answer m (did (plan_set g)) ≡ planned vs p i) where
-    f : AsFound W m g vs p i
-    f = as_found W m g vs p i e
-
     run_is : Run Z.layout m.slots (as_moves vs)
-    run_is = subst (λ (Y : Shape). Run Y.layout m.slots (as_moves vs)) same (rw (plan_moves W m g vs p i f) (plan_shortest W m g vs p i f).run)
+    run_is =
+        let f = as_found W m g vs p i e in
+        subst (λ (Y : Shape). Run Y.layout m.slots (as_moves vs)) same (rw (plan_moves W m g vs p i f) (plan_shortest W m g vs p i f).run)
+
+    few_are : length vs ≤ W.reach
+    few_are =
+        let f = as_found W m g vs p i e in
+        let Y = shape_of W m in
+        rw (f.moves_are, length_records m.slots (moves_found Y m g.animal))
+        (length_climb Y.layout (visited Y m g.animal) 2 W.reach (stopped Y m g.animal)
+        (free_slot Y.layout m.slots (stop_bucket Y.layout m.slots (pair Y g.animal) W.reach)))
 
     home_is : Home Z g.animal (bucket Z i)
-    home_is = subst (λ Y. Home Y g.animal (bucket Y i)) same (plan_final W m g vs p i f).2
-
-  pub plan_room_on : (g : Grant) → GoodInputs g → walk_to m.items g.animal Z.places 0 ≡ none
-      → (p : ℕ) → walk_to m.items 0 Z.places 0 ≡ some p → PlanRoomy Z m.slots g.animal (O.answer m (did (plan_set g)))
-  plan_room_on g good away p vacant =
-      let K = plan_is_sets W m g in
-      let absent : held (shape_of W m) m g.animal ≡ none
-      = subst (λ Y. held Y m g.animal ≡ none) (sym same) (held_walk Z m w g.animal good.real ∙ away) in
-      let R = roomy_on W m₀ right m w g good away p vacant in
-      record {
-        six = (λ e. R.six.0 ((K.refuses absent 6).0 e), λ n. (K.refuses absent 6).1 (R.six.1 n));
-        else_plans = λ n. let (v, k, e) = R.else_stores n in K.stores absent v k e;
-        run = run_is g;
-        few = λ vs p i e. plan_few W m g vs p i (f g vs p i e);
-        inside = λ vs p i e. (plan_final W m g vs p i (f g vs p i e)).0;
-        free = λ vs p i e. (plan_final W m g vs p i (f g vs p i e)).1;
-        home = home_is g;
-        fewest = λ vs p i e. let o = K.plans vs p i e in R.fewest o.visits (length vs) o.told;
-      }
+    home_is = subst (λ Y. Home Y g.animal (bucket Y i)) same (plan_final W m g vs p i (as_found W m g vs p i e)).2
 
 pub plan_room : (W : Ways) → PlanRoom W (ours W)
 plan_room W s g good away p vacant =
-    let l = same_story W s in
-    plan_room_on W s.memory s.right (table W (ours W) s) (well_story W s) g good
-    (ap (λ l. walk_to l g.animal (shape_in W s).places 0) l ∙ away) p (ap (λ l. walk_to l 0 (shape_in W s).places 0) l ∙ vacant)
+    let m = table W (ours W) s in
+    let K = plan_is_sets W m g in
+    let none = absent W s g good (ap (λ l. walk_to l g.animal (shape_in W s).places 0) (same_story W s) ∙ away) in
+    let R = our_room W s g good away p vacant in
+    record {
+      six = (λ e. R.six.0 ((K.refuses none 6).0 e), λ n. (K.refuses none 6).1 (R.six.1 n));
+      else_plans = λ n. let (v, k, e) = R.else_stores n in K.stores none v k e;
+      run = λ vs p i e. run_is W s g vs p i e;
+      few = λ vs p i e. few_are W s g vs p i e;
+      inside = λ vs p i e. (plan_final W m g vs p i (as_found W m g vs p i e)).0;
+      free = λ vs p i e. (plan_final W m g vs p i (as_found W m g vs p i e)).1;
+      home = λ vs p i e. home_is W s g vs p i e;
+      fewest = λ vs p i e. let o = K.plans vs p i e in R.fewest o.visits (length vs) o.told;
+    }
 
 -- no read of a well-formed table is busy
 not_busy : (Y : Shape) (m : Mem) → WellFormed Y m → (x limit now : ℕ) → reading Y m x limit now ≢ refused 8

@@ -1,4 +1,4 @@
--- What the code's plan says is what plan answers, and so for the office's proposal; and the moves are few. Assumes nothing.
+-- What the code's plan says is what plan answers, and its moves are few. Assumes nothing.
 use Prim.Native.Nat.{ℕ, ◌≤◌}
 use native.Mathlib.Omega.{arith}
 use mathlib.Core.Path.{◌≡◌, refl, ap}
@@ -17,8 +17,7 @@ use Rattle.model.specs.Answers.{planned}
 use Rattle.model.specs.Age.{bad_grant}
 use Rattle.model.specs.Calls.{Outcome, asked, busy, final_slot, held, home_damage, moves_found, plan_at, plan_new, refuse, search_damage, stopped, tell, vacant_place, visited}
 use Rattle.model.specs.Lent.{lent_call}
-use Rattle.model.specs.Said.{plan_of, proposal_of, said_plan, said_proposal}
-use Rattle.model.specs.FromOffice.{proposal, reaching}
+use Rattle.model.specs.Said.{plan_of, said_plan}
 use Rattle.model.specs.declared.Grant.{Grant}
 use Rattle.model.specs.declared.MoveRecord.{MoveRecord}
 use Rattle.model.proofs.Records.{length_records, numbers_back}
@@ -27,7 +26,6 @@ use Rattle.model.proofs.Search.{length_climb}
 -- of an outcome that plan may come to, with at most d moves
 record Says (d : ℕ) (o : Outcome) : Type 0 where
   pub says : said_plan (plan_of o.answer) ≡ o.answer
-  pub proposes : said_proposal (proposal_of o.answer) ≡ o.answer
   pub few : (plan_of o.answer).count ≤ d
 
 take_front : (vs ws : List MoveRecord) → take (length vs) (vs ++ ws) ≡ vs
@@ -35,16 +33,11 @@ take_front [] ws = refl
 take_front (v ∷ vs) ws = ap (λ l. v ∷ l) (take_front vs ws)
 
 plans : (d : ℕ) (vs : List MoveRecord) (p i : ℕ) → length vs ≤ d → Says d (tell (planned vs p i))
-plans d vs p i h =
-    record {
-      says = rw (numbers_back vs) (ap (λ l. planned l p i) (take_front vs _));
-      proposes = rw (numbers_back vs) (ap (λ l. planned l p i) (take_front vs _));
-      few = rw (numbers_back vs) h;
-    }
+plans d vs p i h = record { says = rw (numbers_back vs) (ap (λ l. planned l p i) (take_front vs _)); few = rw (numbers_back vs) h }
 
 module _ {d : ℕ} where
   refuses : (n : ℕ) → Says d (refuse n)
-  refuses n = record { says = refl; proposes = refl; few = omega arith }
+  refuses n = record { says = refl; few = omega arith }
 
   either : (b : Bool) {o u : Outcome} → Says d o → Says d u → Says d (choose b o u)
   either true h k = h
@@ -82,10 +75,3 @@ module _ (W : Ways) (m : Mem) (g : Grant) where
 
   pub plan_few : (plan_of (lent_call W m (plan_set g)).answer).count ≤ W.reach
   plan_few = lent_says.few
-
-module _ (W : Ways) (m : Mem) (g : Grant) where
-  pub proposal_said : said_proposal (proposal_of (proposal W m g)) ≡ proposal W m g
-  proposal_said = (lent_says (reaching 8 W) m g).proposes
-
-  pub proposal_few : (proposal_of (proposal W m g)).plan.count ≤ 8
-  proposal_few = (lent_says (reaching 8 W) m g).few

@@ -7,20 +7,20 @@ use mathlib.Core.Bool.{Bool, true, false}
 use mathlib.Core.Option.{none, some}
 use mathlib.Core.List.Memᴰ.{head}
 use mathlib.Core.List.Memᴰ.{tail}
-use mathlib.Core.List.{List}
-use lib.ListN.{length, get_or}
+use mathlib.Core.List.{List, [], ◌∷◌, ◌++◌}
+use lib.ListN.{length, get_or, set}
 use lib.Dec.{eqb}
 use borrow.Author.Tests.{eq-eqb, ne_eqb, eqb-true}
 use Rattle.model.specs.Choice.{choose}
 use Rattle.model.specs.Memory.{Mem}
 use Rattle.model.specs.Shape.{Shape, counter_of, pair, second_of}
-use Rattle.model.specs.Stores.{wholes}
-use Rattle.model.specs.Moves.{Move}
+use Rattle.model.specs.Stores.{wholes, whole as whole_block}
+use Rattle.model.specs.Moves.{Move, moved_by}
 use Rattle.model.specs.Visits.{free_slot}
 use Rattle.model.specs.Answers.{Answer, refused, stored}
 use Rattle.model.specs.Age.{bad_grant}
-use Rattle.model.specs.Calls.{Outcome, after_call, call, enter_at, final_slot, held, entered, moves_found}
-use Rattle.model.specs.Calls.{refuse, set_at, stopped, vacant_place, visited}
+use Rattle.model.specs.Calls.{Outcome, after_call, call, enter_at, enter_block, final_slot, held, move_block, entered, moves_found}
+use Rattle.model.specs.Calls.{move_blocks, refuse, set_at, stopped, vacant_place, visited}
 use Rattle.model.specs.Row.{walk_to}
 use Rattle.model.specs.WellFormed.{WellFormed}
 use Rattle.model.specs.Demands.{Entered, NoRoom, Opens, Position, Roomy, most_visits, GoodInputs}
@@ -32,7 +32,7 @@ use Rattle.model.proofs.ListLaws.{walk_first}
 use Rattle.model.proofs.Calm.{past_asked}
 use Rattle.model.proofs.Turns.{good_grant}
 use Rattle.model.proofs.ReadWalk.{held_walk}
-use Rattle.model.proofs.StepSet.{final_home, found_room, moves_slots, no_search_damage}
+use Rattle.model.proofs.StepSet.{final_home, found_room, no_search_damage}
 use Rattle.model.specs.Calling.{Call, set_animal}
 
 module _ (Y : Shape) (L : Lawful Y) (m : Mem) (g : WellFormed Y m) (q : Grant) (good : GoodInputs q)
@@ -113,6 +113,12 @@ module _ (Y : Shape) (L : Lawful Y) (m : Mem) (g : WellFormed Y m) (q : Grant) (
           before = λ j h. one.before j (omega arith);
         }
 
+    -- the slots after the moves and the new entry
+    entered_slots : (i : ℕ) (ms : List Move) (m : Mem)
+        → (wholes (move_blocks Y m.slots ms ++ (enter_block Y q p i ∷ [])) m).slots ≡ set (moved_by m.slots ms) i (Y.tag_of x * 65536 + p)
+    entered_slots i [] m = refl
+    entered_slots i (u ∷ ms) m = entered_slots i ms (whole_block (move_block Y m.slots u) m)
+
     made : call Y m the_set ≡ entered Y m q p → Entered Y m.slots x (after_call Y m the_set).slots (length (moves_found Y m x))
     made e =
         let r = found_room Y L m g.slots_long x ne in
@@ -125,7 +131,7 @@ module _ (Y : Shape) (L : Lawful Y) (m : Mem) (g : WellFormed Y m) (q : Grant) (
           inside = r.inside;
           vacant = r.freed;
           home = final_home Y L m g.slots_long x ne;
-          result = ap (λ (o : Outcome). (wholes o.blocks m).slots) e ∙ moves_slots Y q p (final_slot Y m x) (moves_found Y m x) m;
+          result = ap (λ (o : Outcome). (wholes o.blocks m).slots) e ∙ entered_slots (final_slot Y m x) (moves_found Y m x) m;
         }
 
     least : (ms : List Move) → Opens Y m.slots x ms → length (moves_found Y m x) ≤ length ms

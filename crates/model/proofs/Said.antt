@@ -2,16 +2,14 @@
 use Prim.Native.Nat.{ℕ}
 use native.Mathlib.Omega.{arith}
 use mathlib.Core.Path.{◌≡◌, refl, sym, ap, ◌∙◌, ap₂}
-use Rattle.model.specs.Answers.{Answer, absent, ahead, at_place, deleted, evicted, fresh, listed, old, refused, started, stored, planned, move_made, entry_made, carried_out}
-use Rattle.model.specs.Said.{said_carrying, said_deleting, said_entry, said_finding, said_move, said_reading, said_setting, said_starting}
+use Rattle.model.specs.Answers.{Answer, absent, ahead, at_place, deleted, evicted, fresh, listed, old, refused, started, stored, planned, move_made, entry_made}
+use Rattle.model.specs.Said.{said_deleting, said_entry, said_finding, said_move, said_reading, said_setting, said_starting}
 use Rattle.model.specs.declared.Reading.{Reading}
 use Rattle.model.specs.declared.Reading.TheVariants as reading
 use Rattle.model.specs.declared.Finding.{Finding}
 use Rattle.model.specs.declared.Finding.TheVariants as finding
 use Rattle.model.specs.declared.Setting.{Setting}
 use Rattle.model.specs.declared.Setting.TheVariants as setting
-use Rattle.model.specs.declared.Carrying.{Carrying}
-use Rattle.model.specs.declared.Carrying.TheVariants as carrying
 use Rattle.model.specs.declared.Deleting.{Deleting}
 use Rattle.model.specs.declared.Deleting.TheVariants as deleting
 use Rattle.model.specs.declared.Stepping.{Stepping}
@@ -35,7 +33,6 @@ unread (at_place p) = reading.Absent
 unread (planned vs p i) = reading.Absent
 unread move_made = reading.Absent
 unread entry_made = reading.Absent
-unread carried_out = reading.Absent
 
 reading_back : (r : Reading) → unread (said_reading r) ≡ r
 unfolding unread
@@ -89,9 +86,3 @@ entry_one stepping.Made stepping.Made e = refl
 entry_one stepping.Made (stepping.Refused n) e = let z : ◌≡◌ {A = ℕ} 0 1 = cc in absurd (omega arith)
 entry_one (stepping.Refused n) stepping.Made e = let z : ◌≡◌ {A = ℕ} 0 1 = cc in absurd (omega arith)
 entry_one (stepping.Refused n) (stepping.Refused k) e = let z : n ≡ k = cc in ap stepping.Refused z
-
-pub carrying_one : (r r' : Carrying) → said_carrying r ≡ said_carrying r' → r ≡ r'
-carrying_one carrying.CarriedOut carrying.CarriedOut e = refl
-carrying_one carrying.CarriedOut (carrying.Refused n) e = let z : ◌≡◌ {A = ℕ} 0 1 = cc in absurd (omega arith)
-carrying_one (carrying.Refused n) carrying.CarriedOut e = let z : ◌≡◌ {A = ℕ} 0 1 = cc in absurd (omega arith)
-carrying_one (carrying.Refused n) (carrying.Refused k) e = let z : n ≡ k = cc in ap carrying.Refused z

@@ -13,9 +13,9 @@ use Rattle.model.specs.Choice.{choose, there}
 use Rattle.model.specs.Memory.{Mem, animal}
 use Rattle.model.specs.Shape.{Shape}
 use Rattle.model.specs.Moves.{as_move, records_of}
-use Rattle.model.specs.Answers.{Answer, entry_made, move_made, planned, refused}
+use Rattle.model.specs.Answers.{entry_made, move_made, planned, refused}
 use Rattle.model.specs.Calls.{enter_block, final_at, final_slot, may_enter, may_move, move_at, move_block, moves_found, plan_at, plan_new, refuse, stopped, tell, vacant_place, visited}
-use Rattle.model.specs.Row.{Row, fill, row_enter, row_fills, row_move, row_plan, row_plan_new, stay}
+use Rattle.model.specs.Row.{Row, fill, row_enter, row_move, row_plan, row_plan_new, stay}
 use Rattle.model.specs.WellFormed.{WellFormed}
 use Rattle.model.specs.InSteps.{MayEnter}
 use Rattle.model.specs.declared.Grant.{Grant}
@@ -67,14 +67,16 @@ module _ (Y : Shape) (L : Lawful Y) (m : Mem) (g : WellFormed Y m) where
           λ q f. true_false (eq-eqb (animal m.items q) x f)
           (h q (range_in 0 Y.places (omega arith) (omega (arith, live_in Y g q (rw f nz)))))
 
-  module _ (q : Grant) (nz : q.animal ≢ 0) (p : ℕ) where
+  module _ (q : Grant) (nz : q.animal ≢ 0) (hv : q.permission < 2 ^ 32) (p i : ℕ) where
     abbrev x : ℕ
     x = q.animal
 
+    abbrev row : ℕ → Row
+    row f = row_enter Y.places f m.items q p (walked Y L m g x)
+
     -- where the table refuses, so does the row
-    pub fills_not : (a : Answer) (o : Option ℕ) → row_fills Y.places a 12 m.items q p o ≡ stay m.items (refused 12)
-    fills_not a (some k) = refl
-    fills_not a none = two (leb Y.places p) (not (eqb (animal m.items p) 0))
+    row_refuses : row 12 ≡ stay m.items (refused 12)
+    row_refuses = go (walked Y L m g x) (leb Y.places p) (not (eqb (animal m.items p) 0))
       where
         l : Row
         l = stay m.items (refused 12)
@@ -84,42 +86,41 @@ module _ (Y : Shape) (L : Lawful Y) (m : Mem) (g : WellFormed Y m) where
         two false true = refl
         two false false = refl
 
-    module _ (hv : q.permission < 2 ^ 32) (i : ℕ) (h : MayEnter Y m x p i) where
-      away : walked Y L m g x ≡ none
-      away = sym (held_walk Y m g x nz) ∙ h.away
+        go : (o : Option ℕ) (b c : Bool) → row_enter Y.places 12 m.items q p o ≡ l
+        go none b c = two (leb Y.places p) (not (eqb (animal m.items p) 0))
+        go (some k) b c = refl
 
-      -- where the final store may be made, the entry fits, and the row fills the place
-      pub enter_fits : Fits Y m (enter_block Y q p i)
-      enter_fits =
-          record {
-            real = nz;
-            inside = h.place_in;
-            vacant = h.vacant;
-            slot = h.slot_in;
-            free = h.free;
-            home = h.home;
-            entry = refl;
-            narrow = hv;
-            new = nowhere x nz away;
-            count = refl;
-          }
+    -- where the final store may be made, the entry fits, and the row fills the place
+    filled : MayEnter Y m x p i → row 0 ≡ record { answer = entry_made; words = fill m.items p x q.permission q.issued 1 }
+    filled h =
+        rw (sym (held_walk Y m g x nz) ∙ h.away, lt-leb Y.places p h.place_in, eq-eqb (animal m.items p) 0 h.vacant)
 
-      pub fills : (a : Answer) → row_fills Y.places a 0 m.items q p (walked Y L m g x)
-          ≡ record { answer = a; words = fill m.items p x q.permission q.issued 1 }
-      fills a = rw (away, lt-leb Y.places p h.place_in, eq-eqb (animal m.items p) 0 h.vacant)
-
-    pub step_final : q.permission < 2 ^ 32 → (i : ℕ)
-        → Step Y (λ a. x) m (final_at Y m q p i) (λ f. row_enter Y.places f m.items q p (walked Y L m g x))
-    step_final hv i =
-        bool (λ b. Step Y (λ a. x) m (choose b (record { answer = entry_made; blocks = enter_block Y q p i ∷ [] }) (refuse 12))
-        (λ f. row_enter Y.places f m.items q p (walked Y L m g x))) (may_enter Y m x p i)
-        (λ e.
-        let r = fills hv i (enter_only Y m x p i e) entry_made in
+    made : MayEnter Y m x p i → Step Y (λ a. x) m (record { answer = entry_made; blocks = enter_block Y q p i ∷ [] }) row
+    made h =
+        let f : Fits Y m (enter_block Y q p i) = record {
+          real = nz;
+          inside = h.place_in;
+          vacant = h.vacant;
+          slot = h.slot_in;
+          free = h.free;
+          home = h.home;
+          entry = refl;
+          narrow = hv;
+          new = nowhere x nz (sym (held_walk Y m g x nz) ∙ h.away);
+          count = refl;
+        } in
         record {
-          tale = last {b = enter_block Y q p i} (enter_fits hv i (enter_only Y m x p i e)) refl;
-          answer = sym (ap (λ (r : Row). r.answer) r);
-          items = sym (ap (λ (r : Row). r.words) r);
-        })
-        λ e.
-        let r = fills_not entry_made (walked Y L m g x) in
-        record { tale = done; answer = sym (ap (λ (r : Row). r.answer) r); items = sym (ap (λ (r : Row). r.words) r) }
+          tale = last {b = enter_block Y q p i} f refl;
+          answer = sym (ap (λ (r : Row). r.answer) (filled h));
+          items = sym (ap (λ (r : Row). r.words) (filled h));
+        }
+
+    pub step_final : Step Y (λ a. x) m (final_at Y m q p i) row
+    step_final =
+        bool (λ b. Step Y (λ a. x) m (choose b (record { answer = entry_made; blocks = enter_block Y q p i ∷ [] }) (refuse 12)) row)
+        (may_enter Y m x p i) (λ e. made (enter_only Y m x p i e))
+        λ e. record {
+          tale = done;
+          answer = sym (ap (λ (r : Row). r.answer) row_refuses);
+          items = sym (ap (λ (r : Row). r.words) row_refuses);
+        }

@@ -6,7 +6,7 @@ use mathlib.Core.Logic.{◌≢◌}
 use mathlib.Core.Bool.{Bool, false}
 use mathlib.Core.Option.{Option, some}
 use mathlib.Core.List.{List, [], ◌∷◌, ◌++◌}
-use lib.ListN.{length, set, take}
+use lib.ListN.{length, take}
 use lib.Dec.{eqb}
 use borrow.Author.Tests.{eq-eqb, eqb-true, eqb-false}
 use Rattle.model.specs.Choice.{any, choose, first}
@@ -32,21 +32,9 @@ use Rattle.model.proofs.Step.{Held, Step, both, still, walked}
 use Rattle.model.proofs.RowWords.{late_is}
 use Rattle.model.specs.Age.{late}
 
-module _ (Y : Shape) where
-  -- what the moves and a new entry leave in the items, and in the slots
-  pub moves_items : (q : Grant) (p i : ℕ) (T : List ℕ) (ms : List Move) (m : Mem)
-      → (wholes (move_blocks Y T ms ++ (enter_block Y q p i ∷ [])) m).items ≡ fill m.items p q.animal q.permission q.issued 1
-  moves_items q p i T [] m = refl
-  moves_items q p i T (w ∷ ms) m = moves_items q p i (moved T w) ms (whole (move_block Y T w) m)
-
-  pub moves_slots : (q : Grant) (p i : ℕ) (ms : List Move) (m : Mem)
-      → (wholes (move_blocks Y m.slots ms ++ (enter_block Y q p i ∷ [])) m).slots ≡ set (moved_by m.slots ms) i (Y.tag_of q.animal * 65536 + p)
-  moves_slots q p i [] m = refl
-  moves_slots q p i (v ∷ ms) m = moves_slots q p i ms (whole (move_block Y m.slots v) m)
-
 module _ (Y : Shape) (L : Lawful Y) where
   -- moves, and then what comes last
-  pub moves_tale : (a : ℕ) (ms : List Move) (m : Mem) → WellFormed Y m → Run Y.layout m.slots ms → (rest : List Block)
+  moves_tale : (a : ℕ) (ms : List Move) (m : Mem) → WellFormed Y m → Run Y.layout m.slots ms → (rest : List Block)
       → ((m' : Mem) → WellFormed Y m' → m'.slots ≡ moved_by m.slots ms → m'.items ≡ m.items → Tale Y a m' rest)
       → Tale Y a m (move_blocks Y m.slots ms ++ rest)
   moves_tale a [] m g run rest k = k m g refl refl
@@ -54,6 +42,11 @@ module _ (Y : Shape) (L : Lawful Y) where
       let f : Fits Y m (move_block Y m.slots v) = (run.0, refl, refl) in
       quiet f tt
       (moves_tale a ms (whole (move_block Y m.slots v) m) (keep Y L m g (move_block Y m.slots v) f) run.1 rest k)
+
+  moves_items : (q : Grant) (p i : ℕ) (T : List ℕ) (ms : List Move) (m : Mem)
+      → (wholes (move_blocks Y T ms ++ (enter_block Y q p i ∷ [])) m).items ≡ fill m.items p q.animal q.permission q.issued 1
+  moves_items q p i T [] m = refl
+  moves_items q p i T (w ∷ ms) m = moves_items q p i (moved T w) ms (whole (move_block Y T w) m)
 
 -- where no number passes a test, none is found
 none_there : (f : ℕ → Bool) → ((b : ℕ) → f b ≡ false) → (l : List ℕ) → any f l ≡ false
@@ -120,7 +113,7 @@ module _ (Y : Shape) (L : Lawful Y) (m : Mem) (g : WellFormed Y m) (q : Grant) (
         tale = enter_tale new p (omega (arith, in_range 0 Y.places r)) (eqb-true (animal m.items p) 0 t)
             (eqb-false (stopped Y m x) (length (visited Y m x)) e);
         answer = refl;
-        items = moves_items Y q p (final_slot Y m x) m.slots (moves_found Y m x) m;
+        items = moves_items Y L q p (final_slot Y m x) m.slots (moves_found Y m x) m;
       })
 
   pub step_set : {o : Option ℕ} → Held Y L m g x o

@@ -6,8 +6,8 @@ use lib.Ieee.{size}
 use Rattle.model.specs.Memory.{Mem}
 use Rattle.model.specs.Shape.{Shape, homes}
 use Rattle.model.specs.Age.{bad_time, judge, bad_grant}
-use Rattle.model.specs.Calls.{call, carry_at, delete_at, final_at, find_at, held, hit, hits, move_at, plan_at, serve_at, set_at, tell}
-use Rattle.model.specs.Row.{row_bad_grant, row_bad_time, row_call, row_carry, row_delete, row_enter, row_find, row_move, row_plan, row_read, row_serve, row_set, stay}
+use Rattle.model.specs.Calls.{call, delete_at, final_at, find_at, held, hit, hits, move_at, plan_at, serve_at, set_at, tell}
+use Rattle.model.specs.Row.{row_bad_grant, row_bad_time, row_call, row_delete, row_enter, row_find, row_move, row_plan, row_read, row_serve, row_set, stay}
 use Rattle.model.specs.WellFormed.{WellFormed}
 use Rattle.model.proofs.ShapeLaws.{Lawful}
 use Rattle.model.proofs.ListLaws.{First, first_is}
@@ -17,8 +17,7 @@ use Rattle.model.proofs.Step.{Step, as_walked, step_asked, step_delete, step_fin
 use Rattle.model.proofs.StepSet.{step_set}
 use Rattle.model.proofs.StepEvict.{step_evict}
 use Rattle.model.proofs.StepInSteps.{step_final, step_moves, step_plan}
-use Rattle.model.proofs.StepCarry.{step_carry}
-use Rattle.model.specs.Calling.{Call, Typed, about, read, serve, find, set_animal, delete, evict, write_list, plan_set, step_move, step_enter, carry}
+use Rattle.model.specs.Calling.{Call, Typed, about, read, serve, find, set_animal, delete, evict, write_list, plan_set, step_move, step_enter}
 
 module _ (Y : Shape) (L : Lawful Y) (m : Mem) (g : WellFormed Y m) where
   pub step : (c : Call) → Typed c → Step Y (about c) m (call Y m c) (λ f. row_call Y.places f m.items c)
@@ -63,8 +62,4 @@ module _ (Y : Shape) (L : Lawful Y) (m : Mem) (g : WellFormed Y m) where
   step (step_enter q p i) h =
       let x = q.animal in
       step_asked Y (λ a. x) m g x (bad_grant q) (row_bad_grant Y.places q) (grant_is Y.places q) (final_at Y m q p i)
-      (λ f. row_enter Y.places f m.items q p (walked Y L m g x)) λ nz. step_final Y L m g q nz p h i
-  step (carry q vs p i) h =
-      let x = q.animal in
-      step_asked Y (λ a. x) m g x (bad_grant q) (row_bad_grant Y.places q) (grant_is Y.places q) (carry_at Y m q vs p i)
-      (λ f. row_carry Y.places f m.items q vs p (walked Y L m g x)) λ nz. step_carry Y L m g q nz h vs p i
+      (λ f. row_enter Y.places f m.items q p (walked Y L m g x)) λ nz. step_final Y L m g q nz h p i

@@ -15,9 +15,6 @@ use Rattle.model.proofs.NoneRetired as dated
 use Rattle.model.proofs.InSteps as steps
 use Rattle.model.proofs.CarriedOut as carried
 use Rattle.model.proofs.PlanRoom as room
-use Rattle.model.proofs.FromOffice as office
-use Rattle.model.proofs.Proposals as proposals
-use Rattle.model.proofs.OnWellFormed as well
 use Rattle.model.proofs.Linked as linked
 use Rattle.model.proofs.Paper as paper
 use Rattle.model.proofs.AsWritten as written
@@ -56,13 +53,6 @@ owed =
       steps_are_set = carried.steps_are_set;
       plan_room = room.plan_room;
       others_kept = room.others_kept;
-      office_made_iff = office.office_rule;
-      office_is_steps = office.office_is_steps;
-      proposal_sound = proposals.proposal_sound;
-      proposal_complete = proposals.proposal_complete;
-      proposal_honest = proposals.proposal_honest;
-      beyond_reach = proposals.beyond_reach;
-      well_kept = λ W m right w. well.well_on W m right m w;
       leaves_lent = linked.leaves_lent four;
       cuts_lent = linked.cuts_lent four;
       fresh_lent = linked.fresh_lent four;

@@ -42,7 +42,7 @@ zeroed_is : (l : List ℕ) → ◌≡◌ {A = List ℕ} (zeroed 0 (length l) l) 
 zeroed_is [] = refl
 zeroed_is (x ∷ l) = shift (length l) 0 0 l ∙ ap (λ (r : List ℕ). 0 ∷ r) (zeroed_is l)
 
-pub make_append : (xs ys : List Write) (m : Mem) → make_all (xs ++ ys) m ≡ make_all ys (make_all xs m)
+make_append : (xs ys : List Write) (m : Mem) → make_all (xs ++ ys) m ≡ make_all ys (make_all xs m)
 make_append [] ys m = refl
 make_append (x ∷ xs) ys m = make_append xs ys (make x m)
 

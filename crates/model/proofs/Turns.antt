@@ -46,13 +46,13 @@ module _ (W : Ways) (m : Mem) (g : Grant) where
   in_its_turn rest = choose (right_lengths W m) (asked Y m x (bad_grant g) rest) (refuse 1)
 
   -- one of the early refusals is due, whatever comes behind them, or it is the turn of that
-  abbrev pub Due : (Outcome → Outcome) → Type 0
+  abbrev Due : (Outcome → Outcome) → Type 0
   Due f = ((k : ℕ) × (k < 9) × ((rest : Outcome) → f rest ≡ refuse k)) ⊎ ItsTurn W m g
 
   early : (k : ℕ) → k < 9 → Due (λ rest. refuse k)
   early k h = inl (k, h, λ rest. refl)
 
-  pub due : Due in_its_turn
+  due : Due in_its_turn
   due =
       bool (λ b. Due (λ rest. choose b (asked Y m x (bad_grant g) rest) (refuse 1))) (right_lengths W m)
       (λ l. bool (λ b. Due (λ rest. choose b (refuse 2) (choose (bad_grant g) (refuse 3) (choose (busy Y m x) (refuse 8) (choose (home_damage Y m x) (refuse 4) rest)))))

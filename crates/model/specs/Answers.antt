@@ -19,7 +19,6 @@ pub data Answer : Type 0 where
   planned : (moves : List MoveRecord) (place slot : ℕ) → Answer
   move_made : Answer
   entry_made : Answer
-  carried_out : Answer
 
 -- the paper's number of an answer, 0 for success, and its values: which success it is, and what it tells; the signed one, how long is
 -- left, stands by itself
@@ -61,7 +60,6 @@ paper (at_place p) = success (9 ∷ p ∷ [])
 paper (planned vs p i) = success (10 ∷ p ∷ i ∷ record_numbers vs)
 paper move_made = success (11 ∷ [])
 paper entry_made = success (12 ∷ [])
-paper carried_out = success (13 ∷ [])
 
 -- value i of a success, 0 where there is none: value 0 says which success it is
 abbrev pub value : Answer → ℕ → ℕ

@@ -19,7 +19,6 @@ pub data Call : Type 0 where
   plan_set : (granted : Grant) → Call
   step_move : (granted : Grant) (move : MoveRecord) → Call
   step_enter : (granted : Grant) (place slot : ℕ) → Call
-  carry : (granted : Grant) (moves : List MoveRecord) (place slot : ℕ) → Call
 
 -- a call on a table, or the call that makes one fresh
 pub data Event : Type 0 where
@@ -53,7 +52,6 @@ traits (write_list size) = record { typed = Unit {0}; about = λ r. 0; gone = λ
 traits (plan_set g) = granted g.animal g
 traits (step_move g v) = granted 0 g
 traits (step_enter g p i) = granted g.animal g
-traits (carry g vs p i) = granted g.animal g
 
 abbrev pub Typed : Call → Type 0
 Typed c = (traits c).typed

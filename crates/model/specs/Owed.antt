@@ -1,18 +1,17 @@
 -- Every statement that is owed, on a line of its own; proofs/Theorems has them all. Assumes nothing.
-use Rattle.std.specs.Prelude.{ℕ, ◌*◌, ◌≤◌, ◌≡◌, ◌≢◌, true, length}
+use Rattle.std.specs.Prelude.{ℕ, ◌*◌, ◌≤◌, ◌≡◌, ◌≢◌, length}
 use Rattle.model.specs.Memory.{Mem}
-use Rattle.model.specs.Shape.{Ways, eight, four, right_lengths, shape_of}
+use Rattle.model.specs.Shape.{Ways, eight, four, shape_of}
 use Rattle.model.specs.Moves.{Legal}
 use Rattle.model.specs.Stores.{stores}
 use Rattle.model.specs.Visits.{sum_of_powers}
 use Rattle.model.specs.Answers.{Answer, paper, refused}
-use Rattle.model.specs.Calling.{Call, Typed, did, evict, make_fresh}
+use Rattle.model.specs.Calling.{Call, did, evict, make_fresh}
 use Rattle.model.specs.Lent.{after_fresh, lent_after, lent_call, lent_cut}
 use Rattle.model.specs.Late.{LateRefused, StampsRise}
 use Rattle.model.specs.Left.{AheadTellsNothing, FreshIffLeft, HeldTells, LeftIs, LeftLeast}
 use Rattle.model.specs.Retired.{NoneRetired, RetiredAt, RetiredHeld, RetiredReads, RetiredReplaced, RetiredThenDated, RetiredUnserved}
 use Rattle.model.specs.InSteps.{OthersKept, PlanIsSets, PlanQuiet, PlanRoom, StepRule, StepsAreSet}
-use Rattle.model.specs.FromOffice.{BeyondReach, OfficeIsSteps, OfficeRule, ProposalComplete, ProposalHonest, ProposalSound}
 use Rattle.model.specs.WellFormed.{WellFormed}
 use Rattle.model.specs.AnyTable.{Table, cut_at, leaves}
 use Rattle.model.specs.Demands.{AgeFromIssue, Demand1, Demand2, Demand3, FreshAnywhere, NeverLost, Story, shape_in, table}
@@ -60,17 +59,6 @@ pub record Owed : Type 0 where
   pub steps_are_set : (W : Ways) → StepsAreSet (ours W)
   pub plan_room : (W : Ways) → PlanRoom W (ours W)
   pub others_kept : (W : Ways) → OthersKept W (ours W)
-  -- wish 8: plans from the office. On any memory: when the gate carries one out, that it is its steps one after the other, that it carries
-  -- out what the office proposes, and that where the office says that there is no plan, there is none; on a well-formed table the office
-  -- says so exactly then, and proposes the fewest moves. A finished call keeps a table well-formed, this one among them
-  pub office_made_iff : (W : Ways) → OfficeRule W (ours W)
-  pub office_is_steps : (W : Ways) → OfficeIsSteps (ours W)
-  pub proposal_sound : (W : Ways) → ProposalSound W (ours W)
-  pub proposal_complete : (W : Ways) → ProposalComplete W
-  pub proposal_honest : (W : Ways) → ProposalHonest W
-  pub beyond_reach : (W : Ways) → BeyondReach W
-  pub well_kept : (W : Ways) (m : Mem) → right_lengths W m ≡ true → WellFormed (shape_of W m) m
-      → (c : Call) → Typed c → WellFormed (shape_of W m) (leaves (ours W) m (did c))
   -- what the code's contracts cite is what the demands speak of
   pub leaves_lent : (m : Mem) (c : Call) → leaves gate m (did c) ≡ lent_after four m c
   pub cuts_lent : (m : Mem) (c : Call) (k : ℕ) → cut_at gate k m (did c) ≡ lent_cut four k m c

@@ -5,7 +5,7 @@ use Rattle.std.proofs.Math.Option.{some}
 use mathlib.Core.List.{List, [], Memᴰ as In}
 use Rattle.model.specs.Memory.{Mem, animal, stamp}
 use Rattle.model.specs.Shape.{Ways, right_lengths, shape_of}
-use Rattle.model.specs.Calling.{Event, carry, did, read, serve, set_animal, step_enter}
+use Rattle.model.specs.Calling.{Event, did, read, serve, set_animal, step_enter}
 use Rattle.model.specs.Answers.{old, stored}
 use Rattle.model.specs.Age.{least_left, no_minute, retired_mark}
 use Rattle.model.specs.Calls.{busy, held, home_damage}
@@ -14,11 +14,10 @@ use Rattle.model.specs.WellFormed.{Live, WellFormed}
 use Rattle.model.specs.AnyTable.{Table, leaves}
 use Rattle.model.specs.Demands.{GoodInputs, Story, reads, table}
 use Rattle.model.specs.declared.Grant.{Grant}
-use Rattle.model.specs.declared.MoveRecord.{MoveRecord}
 
--- what a set, a final store or a plan from the office among some calls brings
+-- what a set or a final store among some calls brings
 abbrev pub Brings : Grant → List Event → Type 0
-Brings g es = In (did (set_animal g)) es ⊎ (((p i : ℕ) × In (did (step_enter g p i)) es) ⊎ ((vs : List MoveRecord) × (p i : ℕ) × In (did (carry g vs p i)) es))
+Brings g es = In (did (set_animal g)) es ⊎ ((p i : ℕ) × In (did (step_enter g p i)) es)
 
 -- a minute that a caller can pass
 abbrev pub MinuteFits : Grant → Type 0

@@ -1,14 +1,13 @@
 -- The plain row of places: the same calls over four words a place, with no slots, no tags, no hash and no counters. It is written
 -- apart from the table: its own walk, its own judgement of age, its own CLOCK and its own list. Assumes nothing.
-use Rattle.std.specs.Prelude.{ℕ, zero, suc, ◌+◌, ◌-◌, ◌*◌, ◌/◌, ◌%◌, ◌^◌, Bool, true, false, not, ◌&&◌, List, [], ◌∷◌, ◌++◌, length, set, replicate, ℤ, pos, neg_ℤ, ◌-ℤ◌, ltb, leb, eqb}
+use Rattle.std.specs.Prelude.{ℕ, zero, suc, ◌+◌, ◌-◌, ◌*◌, ◌/◌, ◌%◌, ◌^◌, Bool, true, false, not, ◌&&◌, List, [], ◌∷◌, ◌++◌, set, replicate, ℤ, pos, neg_ℤ, ◌-ℤ◌, ltb, leb, eqb}
 use Rattle.std.proofs.Math.Option.{Option, none, some}
 use Rattle.std.specs.Int.Signed.{lt_z}
 use Rattle.model.specs.Choice.{choose, one_of}
 use Rattle.model.specs.Memory.{animal, permission, stamp, recent}
-use Rattle.model.specs.Calling.{Call, read, serve, find, set_animal, delete, evict, write_list, plan_set, step_move, step_enter, carry, Event, make_fresh, did}
-use Rattle.model.specs.Answers.{Answer, refused, absent, fresh, old, ahead, stored, deleted, evicted, started, listed, at_place, planned, move_made, entry_made, carried_out, is, paper, value, says_fresh}
+use Rattle.model.specs.Calling.{Call, read, serve, find, set_animal, delete, evict, write_list, plan_set, step_move, step_enter, Event, make_fresh, did}
+use Rattle.model.specs.Answers.{Answer, refused, absent, fresh, old, ahead, stored, deleted, evicted, started, listed, at_place, planned, move_made, entry_made, is, paper, value, says_fresh}
 use Rattle.model.specs.declared.Grant.{Grant}
-use Rattle.model.specs.declared.MoveRecord.{MoveRecord}
 
 -- what a call on a row comes to: its answer and the row afterwards
 pub record Row : Type 0 where
@@ -144,21 +143,14 @@ module _ (M : ℕ) where
   abbrev pub row_move : ℕ → Answer
   row_move told = choose (eqb told 12) (refused 12) move_made
 
-  -- the planned place is filled, and the answer is a: 12 for an animal that is held and for a place that is not there or not vacant, and
-  -- where `told` is 12, for the slots
-  abbrev pub row_fills : Answer → ℕ → List ℕ → Grant → ℕ → Option ℕ → Row
-  row_fills a told l g p (some q) = stay l (refused 12)
-  row_fills a told l g p none =
+  -- the final store fills the planned place: 12 for an animal that is held and for a place that is not there or not vacant, and where
+  -- `told` is 12, for the slot
+  abbrev pub row_enter : ℕ → List ℕ → Grant → ℕ → Option ℕ → Row
+  row_enter told l g p (some q) = stay l (refused 12)
+  row_enter told l g p none =
       choose (leb M p) (stay l (refused 12))
       (choose (not (eqb (animal l p) 0)) (stay l (refused 12))
-      (choose (eqb told 12) (stay l (refused 12)) (record { answer = a; words = fill l p g.animal g.permission g.issued 1 })))
-
-  -- by the final store; and by a plan from the office, which has at most eight moves
-  abbrev pub row_enter : ℕ → List ℕ → Grant → ℕ → Option ℕ → Row
-  row_enter told l g p o = row_fills entry_made told l g p o
-
-  abbrev pub row_carry : ℕ → List ℕ → Grant → List MoveRecord → ℕ → Option ℕ → Row
-  row_carry told l g vs p o = choose (ltb 8 (length vs)) (stay l (refused 12)) (row_fills carried_out told l g p o)
+      (choose (eqb told 12) (stay l (refused 12)) (record { answer = entry_made; words = fill l p g.animal g.permission g.issued 1 })))
 
   abbrev pub row_delete : List ℕ → Option ℕ → Row
   row_delete l none = stay l (refused 7)
@@ -191,8 +183,6 @@ module _ (M : ℕ) where
   row_call told l (step_move g v) = row_asked l g.animal (row_bad_grant g) (stay l (row_move told))
   row_call told l (step_enter g p i) =
       row_asked l g.animal (row_bad_grant g) (row_enter told l g p (walk_to l g.animal M 0))
-  row_call told l (carry g vs p i) =
-      row_asked l g.animal (row_bad_grant g) (row_carry told l g vs p (walk_to l g.animal M 0))
 
   -- with fresh among the calls: every word is 0
   abbrev pub row_event : ℕ → List ℕ → Event → Row

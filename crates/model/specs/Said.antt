@@ -1,8 +1,8 @@
 -- What each case of the code's answers says: one of document 01's answers, and so the paper's number and values. Assumes nothing.
-use Rattle.std.specs.Prelude.{ℕ, ◌*◌, List, ◌++◌, length, take, drop, replicate, leb}
+use Rattle.std.specs.Prelude.{ℕ, ◌*◌, List, ◌++◌, length, take, drop}
 use Rattle.model.specs.Choice.{choose}
-use Rattle.model.specs.Moves.{eight_records, four_records, no_move}
-use Rattle.model.specs.Answers.{is, paper, value, moves_told, Answer, refused, absent, fresh, old, ahead, stored, deleted, evicted, started, listed, at_place, planned, move_made, entry_made, carried_out}
+use Rattle.model.specs.Moves.{four_records}
+use Rattle.model.specs.Answers.{is, paper, value, moves_told, Answer, refused, absent, fresh, old, ahead, stored, deleted, evicted, started, listed, at_place, planned, move_made, entry_made}
 use Rattle.model.specs.declared.Reading.{Reading}
 use Rattle.model.specs.declared.Reading.TheVariants as reading
 use Rattle.model.specs.declared.Finding.{Finding}
@@ -15,9 +15,6 @@ use Rattle.model.specs.declared.Planning.TheVariants as planning
 use Rattle.model.specs.declared.MoveRecord.{MoveRecord}
 use Rattle.model.specs.declared.Stepping.{Stepping}
 use Rattle.model.specs.declared.Stepping.TheVariants as stepping
-use Rattle.model.specs.declared.Proposal.{Proposal}
-use Rattle.model.specs.declared.Carrying.{Carrying}
-use Rattle.model.specs.declared.Carrying.TheVariants as carrying
 use Rattle.model.specs.declared.Deleting.{Deleting}
 use Rattle.model.specs.declared.Deleting.TheVariants as deleting
 use Rattle.model.specs.declared.Evicting.{Evicting}
@@ -47,13 +44,10 @@ said_setting (setting.Stored v n) = stored v n
 said_setting (setting.Refused n) = refused n
 
 -- plan, from the answer to the code's: a refusal has nothing beside its number
-abbrev pub planning_of : Answer → Planning
-planning_of a = choose (is 10 a) planning.Planned (planning.Refused (paper a).number)
-
 abbrev pub plan_of : Answer → Plan
 plan_of a =
     record {
-      told = planning_of a;
+      told = choose (is 10 a) planning.Planned (planning.Refused (paper a).number);
       moves = four_records (moves_told a);
       count = length (moves_told a);
       place = value a 1;
@@ -76,25 +70,6 @@ said_move (stepping.Refused n) = refused n
 abbrev pub said_entry : Stepping → Answer
 said_entry stepping.Made = entry_made
 said_entry (stepping.Refused n) = refused n
-
--- the moves of a plan from the office, as the gate takes it: the first n of its eight records; where n is more, so many that no record has
-abbrev pub offered : List MoveRecord → ℕ → List MoveRecord
-offered vs n = choose (leb n 8) (take n vs) (replicate n no_move)
-
-abbrev pub said_carrying : Carrying → Answer
-said_carrying carrying.CarriedOut = carried_out
-said_carrying (carrying.Refused n) = refused n
-
--- what the office proposes, from the answer to the code's, and back
-abbrev pub proposal_of : Answer → Proposal
-proposal_of a =
-    record {
-      told = planning_of a;
-      plan = record { count = length (moves_told a); place = value a 1; slot = value a 2; moves = eight_records (moves_told a) };
-    }
-
-abbrev pub said_proposal : Proposal → Answer
-said_proposal b = said_planning b.told (take b.plan.count b.plan.moves) b.plan.place b.plan.slot
 
 -- delete
 abbrev pub said_deleting : Deleting → Answer

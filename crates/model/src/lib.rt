@@ -69,31 +69,6 @@ pub enum Stepping {
     Refused(u32),
 }
 
-// A plan from the office: the first `count` of its moves, in the order of making, then the place and the slot of the final store. A
-// cabinet passes it as it is.
-#[repr(C)]
-#[derive(Drop)]
-pub struct OfficePlan {
-    pub count: usize,
-    pub place: usize,
-    pub slot: usize,
-    pub moves: [MoveRecord; 8],
-}
-
-// What the office proposes: whether there is a plan, and the plan beside it.
-#[derive(Drop)]
-pub struct Proposal {
-    pub told: Planning,
-    pub plan: OfficePlan,
-}
-
-// A plan from the office, at the gate.
-#[derive(Drop)]
-pub enum Carrying {
-    CarriedOut,
-    Refused(u32),
-}
-
 // Delete.
 #[derive(Drop)]
 pub enum Deleting {

@@ -1,4 +1,4 @@
-// The moves of a path or of a plan, one after the other, under a budget. The ways of a table come in as a shift: it has 2^shift slots a bucket.
+// The moves of a path, far end first, under a budget. The ways of a table come in as a shift: it has 2^shift slots a bucket.
 ghost use Rattle.std.specs.Prelude.{◌≡◌, List, ℕ, ◌^◌, length, take};
 ghost use Rattle.model.specs.Memory.{mem};
 ghost use Rattle.model.specs.Shape.{Ways, shape};
@@ -32,7 +32,7 @@ pub fn move_one(
     blocks::move_entry(slots, counters, c as usize, from, to, w, left)
 }
 
-// The first count of four moves.
+// The first count of four moves, the far end first.
 pub fn make_moves(
     slots: &mut [u32],
     counters: &mut [u32],
@@ -42,34 +42,7 @@ pub fn make_moves(
     count: usize,
     left: u64,
 ) -> u64
-    requires { MovesIn n (length counters.old) shift 4 moves count }
-    ensures { (W : Ways) (p : ℕ) (t : List ℕ) → W.ways ≡ 2 ^ shift
-        → Made (stores (move_blocks (shape W n (length counters.old) p) slots.old (as_moves (take count moves)))) left
-        (mem slots.old counters.old t) (mem slots.new counters.new t) result }
-{
-    let mut l = left;
-    let mut j = 0;
-    while j < count {
-        let m = moves[j];
-        let from = m.from;
-        let to = m.to;
-        l = move_one(slots, counters, n, shift, from, to, l);
-        j += 1;
-    }
-    l
-}
-
-// The same of eight: a plan from the office has as many.
-pub fn make_eight(
-    slots: &mut [u32],
-    counters: &mut [u32],
-    n: u32,
-    shift: u32,
-    moves: [MoveRecord; 8],
-    count: usize,
-    left: u64,
-) -> u64
-    requires { MovesIn n (length counters.old) shift 8 moves count }
+    requires { MovesIn n (length counters.old) shift moves count }
     ensures { (W : Ways) (p : ℕ) (t : List ℕ) → W.ways ≡ 2 ^ shift
         → Made (stores (move_blocks (shape W n (length counters.old) p) slots.old (as_moves (take count moves)))) left
         (mem slots.old counters.old t) (mem slots.new counters.new t) result }

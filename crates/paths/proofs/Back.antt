@@ -10,7 +10,7 @@ use lib.Seq.{append_snoc, set_at}
 use borrow.Author.Tests.{lt-ltb, le-ltb}
 use Rattle.model.specs.Memory.{tag}
 use Rattle.model.specs.Shape.{Layout, Ways, four}
-use Rattle.model.specs.Moves.{Move, in_records, no_move, recorded, records_of}
+use Rattle.model.specs.Moves.{Move, no_move, recorded, records_of}
 use Rattle.model.proofs.Records.{length_records}
 use Rattle.model.specs.Visits.{climb, lands}
 use Rattle.model.specs.declared.MoveRecord.{MoveRecord}
@@ -47,24 +47,39 @@ no_entry = record { bucket = 0 }
 pub bucket_at : (queue : List Entry) (p : ℕ) → get_or (buckets_of queue) p 0 ≡ (get_or queue p no_entry).bucket
 bucket_at queue p = get_or-map (λ (e : Entry). e.bucket) queue p no_entry
 
--- back from slot s of the bucket at position v of the visit list Q, over at most d levels
-module _ (T Q : List ℕ) (d v s : ℕ) where
+-- back from slot s of the bucket at position v
+module _ (T : List ℕ) (queue : List Entry) (v s : ℕ) where
+  abbrev Q : List ℕ
+  Q = buckets_of queue
+
   -- some moves are made out, and those that are left from position `at`, whose slot `to` is to be free, complete the path
   pub record Back (moves : List MoveRecord) (count at to : ℕ) : Type 0 where
-    pub few : count ≤ d
+    pub few : count ≤ 4
     pub under : at ≤ v
     pub by : ℕ
     pub here : to ≡ get_or Q at 0 * 4 + by
     pub gone : List Move
     pub long : length gone ≡ count
-    pub row : moves ≡ records_of T gone ++ replicate (d - count) no_move
-    pub whole : (n : ℕ) → gone ++ climb (layout_of four n) Q 2 (d - count) at by ≡ climb (layout_of four n) Q 2 d v s
+    pub row : moves ≡ records_of T gone ++ replicate (4 - count) no_move
+    pub whole : (n : ℕ) → gone ++ climb (layout_of four n) Q 2 (4 - count) at by ≡ climb (layout_of four n) Q 2 4 v s
     pub freed : lands (get_or Q v 0 * 4 + s) gone ≡ to
 
-  pub back_begins : {to : ℕ} → to ≡ get_or Q v 0 * 4 + s → Back (replicate d no_move) 0 v to
+  slot_at : (p i : ℕ) → (get_or queue p no_entry).bucket * 4 + i ≡ get_or Q p 0 * 4 + i
+  slot_at p i = ap (λ (b : ℕ). b * 4 + i) (sym (bucket_at queue p))
+
+  pub back_begins : {to : ℕ} → to ≡ (get_or queue v no_entry).bucket * 4 + s → Back (replicate 4 no_move) 0 v to
   back_begins e =
-      let z : d - 0 ≡ d = omega arith in
-      record { few = omega arith; under = omega arith; by = s; here = e; gone = []; long = refl; row = rw z; whole = λ n. rw z; freed = sym e }
+      record {
+        few = omega arith;
+        under = omega arith;
+        by = s;
+        here = e ∙ slot_at v s;
+        gone = [];
+        long = refl;
+        row = refl;
+        whole = λ n. refl;
+        freed = sym (e ∙ slot_at v s);
+      }
 
   done : (n f q i : ℕ) → (f ≡ 0) ⊎ (q < 2) → climb (layout_of four n) Q 2 f q i ≡ []
   unfolding climb
@@ -72,19 +87,20 @@ module _ (T Q : List ℕ) (d v s : ℕ) where
   done n (suc f) q i e = ⊎_elim (λ z. absurd (omega arith)) (λ l. rw (lt-ltb q 2 l)) e
 
   module _ {moves : List MoveRecord} {count at to : ℕ} (b : Back moves count at to) where
-    pub back_goes : {from : ℕ} → count < d → 2 ≤ at → from ≡ get_or Q ((at - 2) / 4) 0 * 4 + (at - 2) % 4
+    pub back_goes : {from : ℕ} → count < 4 → 2 ≤ at → from ≡ (get_or queue ((at - 2) / 4) no_entry).bucket * 4 + (at - 2) % 4
         → Back (set moves count (record { from = from; tag = get_or T from 0 / 65536; to = to })) (count + 1) ((at - 2) / 4) from
     unfolding climb tag
     back_goes {from} h k e =
-        let more : d - count ≡ suc (d - (count + 1)) = omega arith in
+        let more : 4 - count ≡ suc (4 - (count + 1)) = omega arith in
         let low : (at - 2) / 4 ≤ at - 2 = div-le_self (at - 2) 4 in
+        let e' : from ≡ get_or Q ((at - 2) / 4) 0 * 4 + (at - 2) % 4 = e ∙ slot_at ((at - 2) / 4) ((at - 2) % 4) in
         let y : Move = record { from = from; to = to } in
-        let rest : List MoveRecord = replicate (d - (count + 1)) no_move in
+        let rest : List MoveRecord = replicate (4 - (count + 1)) no_move in
         record {
           few = omega arith;
           under = omega (arith, b.under);
           by = (at - 2) % 4;
-          here = e;
+          here = e';
           gone = b.gone ++ (y ∷ []);
           long = length-append b.gone (y ∷ []) ∙ rw b.long;
           row =
@@ -92,54 +108,19 @@ module _ (T Q : List ℕ) (d v s : ℕ) where
               (set_at (records_of T b.gone) no_move rest (recorded T y) count (length_records T b.gone ∙ b.long)
               ∙ sym (append_snoc (records_of T b.gone) (recorded T y) rest)
               ∙ ap (λ (l : List MoveRecord). l ++ rest) (sym (records_append T b.gone (y ∷ []))));
-          whole = λ n. append_snoc b.gone y (climb (layout_of four n) Q 2 (d - (count + 1)) ((at - 2) / 4) ((at - 2) % 4))
-              ∙ rw (e, b.here) (rw (more, le-ltb at 2 k) at (b.whole n));
+          whole = λ n. append_snoc b.gone y (climb (layout_of four n) Q 2 (4 - (count + 1)) ((at - 2) / 4) ((at - 2) % 4))
+              ∙ rw (e', b.here) (rw (more, le-ltb at 2 k) at (b.whole n));
           freed = lands_last (get_or Q v 0 * 4 + s) b.gone y;
         }
 
-    -- all moves are made out: how many, their records, the slot that they free
-    module _ (e : (d ≤ count) ⊎ (at < 2)) (n : ℕ) where
-      abbrev all : List Move
-      all = climb (layout_of four n) Q 2 d v s
-
-      pub all_gone : b.gone ≡ all
-      all_gone =
-          let none : climb (layout_of four n) Q 2 (d - count) at b.by ≡ []
-          = done n (d - count) at b.by (⊎_elim (λ l. inl (omega arith)) (λ l. inr l) e) in
-          sym (sym (b.whole n) ∙ rw none (append-nil b.gone))
-
-      pub all_counted : count ≡ length all
-      all_counted = sym b.long ∙ ap length all_gone
-
-      pub all_recorded : moves ≡ in_records d (records_of T all)
-      all_recorded =
-          b.row ∙ rw (← all_gone, length_records T b.gone, b.long)
-
-      pub all_freed : to ≡ lands (get_or Q v 0 * 4 + s) all
-      all_freed = sym b.freed ∙ ap (lands (get_or Q v 0 * 4 + s)) all_gone
-
--- the gate's queue
-module _ (T : List ℕ) (queue : List Entry) (v s : ℕ) where
-  slot_at : (p i : ℕ) → (get_or queue p no_entry).bucket * 4 + i ≡ get_or (buckets_of queue) p 0 * 4 + i
-  slot_at p i = ap (λ (b : ℕ). b * 4 + i) (sym (bucket_at queue p))
-
-  pub record InQueue (moves : List MoveRecord) (count at to : ℕ) : Type 0 where
-    pub back : Back T (buckets_of queue) 4 v s moves count at to
-
-  pub queue_begins : {to : ℕ} → to ≡ (get_or queue v no_entry).bucket * 4 + s → InQueue (replicate 4 no_move) 0 v to
-  queue_begins e = record { back = back_begins T (buckets_of queue) 4 v s (e ∙ slot_at v s) }
-
-  module _ {moves : List MoveRecord} {count at to : ℕ} (b : InQueue moves count at to) where
-    pub queue_goes : {from : ℕ} → count < 4 → 2 ≤ at → from ≡ (get_or queue ((at - 2) / 4) no_entry).bucket * 4 + (at - 2) % 4
-        → InQueue (set moves count (record { from = from; tag = get_or T from 0 / 65536; to = to })) (count + 1) ((at - 2) / 4) from
-    queue_goes h k e = record { back = back_goes T (buckets_of queue) 4 v s b.back h k (e ∙ slot_at ((at - 2) / 4) ((at - 2) % 4)) }
-
-    pub queue_ends : (4 ≤ count) ⊎ (at < 2) → (n : ℕ)
-        → ◌≡◌ {A = Found} (record { ending = Room (v + 1); count = count; moves = moves; slot = to }) (room_from four n T (buckets_of queue) v s)
-    queue_ends e n =
-        let g = b.back in
-        rw (all_counted T (buckets_of queue) 4 v s g e n, all_recorded T (buckets_of queue) 4 v s g e n, all_freed T (buckets_of queue) 4 v s g e n)
+    pub back_ends : (4 ≤ count) ⊎ (at < 2) → (n : ℕ)
+        → ◌≡◌ {A = Found} (record { ending = Room (v + 1); count = count; moves = moves; slot = to }) (room_from four n T Q v s)
+    back_ends e n =
+        let none : climb (layout_of four n) Q 2 (4 - count) at b.by ≡ []
+        = done n (4 - count) at b.by (⊎_elim (λ l. inl (omega arith)) (λ l. inr l) e) in
+        let all : climb (layout_of four n) Q 2 4 v s ≡ b.gone = sym (b.whole n) ∙ rw none (append-nil b.gone) in
+        rw (all, length_records T b.gone, b.long, b.freed, b.row)
 
   -- a source of a move lies in the table
-  pub source_in : {p i from : ℕ} → BackFrom T (buckets_of queue) v s → from ≡ (get_or queue p no_entry).bucket * 4 + i → p ≤ v → i < 4 → from < length T
+  pub source_in : {p i from : ℕ} → BackFrom T Q v s → from ≡ (get_or queue p no_entry).bucket * 4 + i → p ≤ v → i < 4 → from < length T
   source_in {p} {i} f e h k = omega (arith, f.within p h, e ∙ slot_at p i)

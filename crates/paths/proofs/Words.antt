@@ -104,9 +104,6 @@ module _ (T : List ℕ) (b m : ℕ) (w : List ℕ) (words : w ≡ bucket_words 4
       let e : w ≡ words_from T (b * 4) = words ∙ sym (four_words T b) in
       ap (any D) (four_slots (b * 4)) ∙ rw (e₀, e₁, e₂, e₃, e) (or_four (b * 4) (D (b * 4)) (D (b * 4 + 1)) (D (b * 4 + 2)) (D (b * 4 + 3)))
 
-  pub four_judged : (n : ℕ) → (d₀ || (d₁ || (d₂ || d₃))) ≡ bucket_damage (layout_of four n) T b m
-  four_judged n = sym (judged n)
-
   pub four_damaged : (d₀ || (d₁ || (d₂ || d₃))) ≡ true → (n : ℕ) → 4 ≡ sound_free (layout_of four n) T b m
   four_damaged t n = rw (judged n ∙ t)
 

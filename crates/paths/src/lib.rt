@@ -128,7 +128,7 @@ pub fn room_at_home(b: u32, s: usize) -> Found
 }
 
 // Slot s of bucket b.
-pub fn slot_in(b: u16, s: usize) -> usize
+fn slot_in(b: u16, s: usize) -> usize
     requires { s < 4 }
     ensures { result ≡ b * 4 + s }
 {

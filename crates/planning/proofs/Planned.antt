@@ -6,7 +6,7 @@ use mathlib.Core.Bool.{Bool}
 use Rattle.model.specs.Memory.{Mem}
 use Rattle.model.specs.Shape.{Ways, right_lengths, shape_of}
 use Rattle.model.specs.Calling.{plan_set}
-use Rattle.model.specs.Answers.{Answer, refused}
+use Rattle.model.specs.Answers.{refused}
 use Rattle.model.specs.Age.{bad_grant}
 use Rattle.model.specs.Calls.{Outcome, held, plan_at}
 use Rattle.model.specs.Lent.{lent_call}
@@ -38,30 +38,30 @@ module _ (W : Ways) (m : Mem) (g : Grant) {h : Homes} {r : Room} (i : RoomIs W m
       ≡ plan_of (planning_new W m g.animal).answer
   room_planned q = room_plans q
 
--- the call, whatever its answer is told in
-module _ {A : Type 0} (told : Answer → A) (W : Ways) (m : Mem) (g : Grant) where
+module _ (W : Ways) (m : Mem) (g : Grant) where
   abbrev rest : Outcome
   rest = plan_at (shape_of W m) m g.animal (held (shape_of W m) m g.animal)
 
-  -- the outcome o, where that is what the call comes to
-  comes_to : {o : Outcome} → lent_call W m (plan_set g) ≡ o → {b : A} → b ≡ told o.answer → b ≡ told (lent_call W m (plan_set g)).answer
-  comes_to q e = e ∙ ap (λ (o : Outcome). told o.answer) (sym q)
+  -- a plan of the outcome o, where that is what the call comes to
+  comes_to : {o : Outcome} → lent_call W m (plan_set g) ≡ o → {b : Plan} → b ≡ plan_of o.answer → b ≡ plan_of (lent_call W m (plan_set g)).answer
+  comes_to q e = e ∙ ap (λ (o : Outcome). plan_of o.answer) (sym q)
 
   pub plan_early : {b : Bool} → b ≡ bad_grant g → {n : ℕ} → n ≡ early (right_lengths W m) g.animal b → n ≢ 0
-      → {r : A} → r ≡ told (refused n) → r ≡ told (lent_call W m (plan_set g)).answer
+      → {r : Plan} → r ≡ plan_of (refused n) → r ≡ plan_of (lent_call W m (plan_set g)).answer
   plan_early eb e nz = comes_to (early_outcome W m g.animal (bad_grant g) (rw eb at e) nz rest)
 
   module _ (passed : Passed W m g.animal (bad_grant g)) {r : Looked} (l : LooksUp W m g.animal r) where
-    pub plan_refused : {n : ℕ} → r.look ≡ look.Refused n → {b : A} → b ≡ told (refused n) → b ≡ told (lent_call W m (plan_set g)).answer
+    pub plan_homed : Homed W m g.animal r.homes
+    plan_homed = record { right = passed.lengths; homes_are = l.homes_are }
+
+    pub plan_refused : {n : ℕ} → r.look ≡ look.Refused n → {b : Plan} → b ≡ plan_of (refused n) → b ≡ plan_of (lent_call W m (plan_set g)).answer
     plan_refused q = comes_to (look_refused W m g.animal (bad_grant g) rest passed l q)
 
-    pub plan_absent : r.look ≡ look.Absent → {b : A} → b ≡ told (planning_new W m g.animal).answer → b ≡ told (lent_call W m (plan_set g)).answer
+    pub plan_absent : r.look ≡ look.Absent → {b : Plan} → b ≡ plan_of (planning_new W m g.animal).answer
+        → b ≡ plan_of (lent_call W m (plan_set g)).answer
     plan_absent q =
         let s = look_lacks W m g.animal (bad_grant g) rest passed l q in comes_to (s.0 ∙ ap (plan_at (shape_of W m) m g.animal) s.1)
 
-    pub plan_held : {w : ℕ} → r.look ≡ look.At w → {b : A} → b ≡ told (refused 12) → b ≡ told (lent_call W m (plan_set g)).answer
+    pub plan_held : {w : ℕ} → r.look ≡ look.At w → {b : Plan} → b ≡ plan_of (refused 12) → b ≡ plan_of (lent_call W m (plan_set g)).answer
     plan_held q =
         let s = look_holds W m g.animal (bad_grant g) rest passed l q in comes_to (s.0 ∙ ap (plan_at (shape_of W m) m g.animal) s.1)
-
-pub plan_homed : (W : Ways) (m : Mem) (g : Grant) → Passed W m g.animal (bad_grant g) → {r : Looked} → LooksUp W m g.animal r → Homed W m g.animal r.homes
-plan_homed W m g passed l = record { right = passed.lengths; homes_are = l.homes_are }

@@ -1,8 +1,8 @@
 -- Where the search stops, for any ways: at damage, at a free slot, or at the end of the visit list. Assumes nothing.
-use Prim.Native.Nat.{ℕ, ◌+◌, ◌*◌, ◌<◌, ◌≤◌}
+use Prim.Native.Nat.{ℕ, ◌+◌, ◌<◌, ◌≤◌}
 use native.Mathlib.Omega.{arith}
 use native.Mathlib.Decide.{dec_lt}
-use mathlib.Core.Path.{◌≡◌, sym, ap, ap₂, ◌∙◌}
+use mathlib.Core.Path.{◌≡◌, ap, ap₂, ◌∙◌}
 use mathlib.Core.Logic.{dite}
 use mathlib.Core.Bool.{true, false}
 use mathlib.Core.List.{List}
@@ -10,15 +10,14 @@ use lib.ListN.{length, get_or}
 use borrow.Author.Count.{below_more}
 use borrow.Author.Tests.{eq-eqb, ne_eqb}
 use Rattle.model.specs.Shape.{Layout, Ways}
-use Rattle.model.specs.Moves.{Free, Move}
-use Rattle.model.specs.Visits.{climb, first_free, free_slot}
+use Rattle.model.specs.Moves.{Free}
+use Rattle.model.specs.Visits.{first_free, free_slot}
 use Rattle.model.proofs.Search.{first_same, slot_is, stop_is}
-use Rattle.paths.specs.declared.Ending.{Ending}
 use Rattle.paths.specs.declared.Ending.TheVariants.{Damaged, Nowhere}
 use Rattle.paths.specs.Buckets.{layout_of}
-use Rattle.paths.specs.Path.{no_room, room_at, room_from}
+use Rattle.paths.specs.Path.{no_room, room_from}
 use Rattle.paths.proofs.Visits.{damage_met, damage_of, no_damage, visits_of}
-use Rattle.searching.specs.Search.{FoundIs, at_end, ended, meets_damage_in}
+use Rattle.searching.specs.Search.{FoundIs, at_end, meets_damage_in}
 
 -- no bucket before position v has a damaged word or a free slot
 pub record Behind (W : Ways) (n m : ℕ) (T : List ℕ) (b c v : ℕ) : Type 0 where
@@ -46,51 +45,38 @@ module _ {W : Ways} {n m : ℕ} {T : List ℕ} {b c v : ℕ} (k : Behind W n m T
         full = below_more (λ i. ¬ Free S T (get_or Q i 0)) v k.full f;
       }
 
-  module _ {A : Type 0} (none : Ending → A) (room : ℕ → ℕ → List Move → A) where
-    -- the whole list is visited
-    pub ends_nowhere : v ≡ length Q → ended W n m T b c none room ≡ none Nowhere
-    ends_nowhere e =
-        let s : v ≡ q = first_same S T Q v (omega arith) (λ h. absurd (omega arith)) k.full in
-        let no : meets_damage_in W n m T b c ≡ false = no_damage W n T b c m (λ i h l. k.sound i (omega arith)) in
-        let end : at_end W n T b c ≡ true = eq-eqb q (length Q) (omega arith) in
-        rw (no, end)
-
-    module _ (h : v < length Q) where
-      -- it does not stop before
-      not_before : v ≤ q
-      not_before =
-          let r = stop_is S T Q in
-          dite (dec_lt q v)
-          (λ l.
-          let f = r.free (omega arith) in
-          absurd (k.full q l (free_slot S T (get_or Q q 0), f, (slot_is S T (get_or Q q 0)).free f)))
-          λ l. omega arith
-
-      -- the bucket there is damaged
-      pub ends_damaged : damage_of W n T b c m v ≡ true → ended W n m T b c none room ≡ none Damaged
-      ends_damaged e =
-          let yes : meets_damage_in W n m T b c ≡ true = damage_met W n T b c m v not_before h e in
-          rw yes
-
-      -- it is not, and s is its lowest free slot
-      pub ends_with_room : {s : ℕ} → damage_of W n T b c m v ≡ false → s < W.ways → s ≡ free_slot S T (get_or Q v 0)
-          → ended W n m T b c none room ≡ room v (get_or Q v 0 * W.ways + s) (climb S Q 2 W.reach v s)
-      ends_with_room {s} d l e =
-          let stops : v ≡ q = first_same S T Q v (omega arith)
-          (λ z. (s, l, rw (← e) at ((slot_is S T (get_or Q v 0)).free (rw (← e) l)))) k.full in
-          let no : meets_damage_in W n m T b c ≡ false
-          = no_damage W n T b c m (λ i z y. below_more (λ i. damage_of W n T b c m i ≡ false) v k.sound d i (omega arith)) in
-          let inside : at_end W n T b c ≡ false = ne_eqb q (length Q) (λ z. omega arith) in
-          let by_place : ℕ → ℕ → A = λ p r. room p (get_or Q p 0 * W.ways + r) (climb S Q 2 W.reach p r) in
-          rw (no, inside) (sym (ap₂ by_place stops (e ∙ ap (λ p. free_slot S T (get_or Q p 0)) stops)))
-
-  -- the same as what the gate's search gives back
+  -- the whole list is visited
   pub stops_nowhere : v ≡ length Q → FoundIs W n m T b c (no_room Nowhere)
-  stops_nowhere e = record { found_is = sym (ends_nowhere no_room (room_at T) e) }
+  stops_nowhere e =
+      let s : v ≡ q = first_same S T Q v (omega arith) (λ h. absurd (omega arith)) k.full in
+      let no : meets_damage_in W n m T b c ≡ false = no_damage W n T b c m (λ i h l. k.sound i (omega arith)) in
+      let end : at_end W n T b c ≡ true = eq-eqb q (length Q) (omega arith) in
+      record { found_is = rw (no, end) }
 
-  pub stops_damaged : v < length Q → damage_of W n T b c m v ≡ true → FoundIs W n m T b c (no_room Damaged)
-  stops_damaged h e = record { found_is = sym (ends_damaged no_room (room_at T) h e) }
+  module _ (h : v < length Q) where
+    -- it does not stop before
+    not_before : v ≤ q
+    not_before =
+        let r = stop_is S T Q in
+        dite (dec_lt q v)
+        (λ l.
+        let f = r.free (omega arith) in
+        absurd (k.full q l (free_slot S T (get_or Q q 0), f, (slot_is S T (get_or Q q 0)).free f)))
+        λ l. omega arith
 
-  pub stops_with_room : v < length Q → {s : ℕ} → damage_of W n T b c m v ≡ false → s < W.ways → s ≡ free_slot S T (get_or Q v 0)
-      → FoundIs W n m T b c (room_from W n T Q v s)
-  stops_with_room h d l e = record { found_is = sym (ends_with_room no_room (room_at T) h d l e) }
+    -- the bucket there is damaged
+    pub stops_damaged : damage_of W n T b c m v ≡ true → FoundIs W n m T b c (no_room Damaged)
+    stops_damaged e =
+        let yes : meets_damage_in W n m T b c ≡ true = damage_met W n T b c m v not_before h e in
+        record { found_is = rw yes }
+
+    -- it is not, and s is its lowest free slot
+    pub stops_with_room : {s : ℕ} → damage_of W n T b c m v ≡ false → s < W.ways → s ≡ free_slot S T (get_or Q v 0)
+        → FoundIs W n m T b c (room_from W n T Q v s)
+    stops_with_room {s} d l e =
+        let stops : v ≡ q = first_same S T Q v (omega arith)
+        (λ z. (s, l, rw (← e) at ((slot_is S T (get_or Q v 0)).free (rw (← e) l)))) k.full in
+        let no : meets_damage_in W n m T b c ≡ false
+        = no_damage W n T b c m (λ i z y. below_more (λ i. damage_of W n T b c m i ≡ false) v k.sound d i (omega arith)) in
+        let inside : at_end W n T b c ≡ false = ne_eqb q (length Q) (λ z. omega arith) in
+        record { found_is = rw (no, inside) (ap₂ (room_from W n T Q) stops (e ∙ ap (λ p. free_slot S T (get_or Q p 0)) stops)) }

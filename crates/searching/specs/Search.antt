@@ -4,8 +4,6 @@ use Rattle.model.specs.Choice.{choose}
 use Rattle.model.specs.Hash.{Size}
 use Rattle.model.specs.Shape.{Ways}
 use Rattle.model.specs.Visits.{meets_damage, search_moves, stop, stop_slot, visit_list}
-use Rattle.model.specs.Moves.{Move}
-use Rattle.paths.specs.declared.Ending.{Ending}
 use Rattle.paths.specs.declared.Ending.TheVariants.{Damaged, Nowhere}
 use Rattle.paths.specs.declared.Found.{Found}
 use Rattle.paths.specs.Buckets.{layout_of}
@@ -25,24 +23,17 @@ module _ (W : Ways) (n : ℕ) (T : List ℕ) (b c : ℕ) where
   at_end =
       eqb (stop (layout_of W n) T (b ∷ c ∷ []) W.reach) (length (visit_list (layout_of W n) T (b ∷ c ∷ []) W.reach))
 
-  -- it stops at a free slot, which is told in any words: the visit's position, the free slot there, and the moves back from it
-  abbrev pub room_in : {A : Type 0} → (ℕ → ℕ → List Move → A) → A
-  room_in room =
-      room (stop (layout_of W n) T (b ∷ c ∷ []) W.reach) (stop_slot (layout_of W n) T (b ∷ c ∷ []) W.reach)
-      (search_moves (layout_of W n) T (b ∷ c ∷ []) W.reach)
-
+  -- it stops at a free slot: the visit's position counted from 1, the moves back, and the slot that is free after them
   abbrev pub room_there : Found
-  room_there = room_in (room_at T)
+  room_there =
+      room_at T (stop (layout_of W n) T (b ∷ c ∷ []) W.reach) (stop_slot (layout_of W n) T (b ∷ c ∷ []) W.reach)
+      (search_moves (layout_of W n) T (b ∷ c ∷ []) W.reach)
 
 module _ (W : Ways) (n m : ℕ) (T : List ℕ) (b c : ℕ) where
   -- it meets a word that is damaged among m places
   abbrev pub meets_damage_in : Bool
   meets_damage_in = meets_damage (layout_of W n) T (b ∷ c ∷ []) m W.reach
 
-  -- how it ends: damage comes first, then no room
-  abbrev pub ended : {A : Type 0} → (Ending → A) → (ℕ → ℕ → List Move → A) → A
-  ended none room = choose meets_damage_in (none Damaged) (choose (at_end W n T b c) (none Nowhere) (room_in W n T b c room))
-
-  -- what it gives back, with nothing left open
+  -- what it gives back, with nothing left open: damage comes first, then no room
   pub record FoundIs (r : Found) : Type 0 where
-    pub found_is : r ≡ ended no_room (room_at T)
+    pub found_is : r ≡ choose meets_damage_in (no_room Damaged) (choose (at_end W n T b c) (no_room Nowhere) (room_there W n T b c))

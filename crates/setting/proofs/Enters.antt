@@ -3,7 +3,7 @@ use Prim.Native.Nat.{ℕ, ◌+◌, ◌*◌, ◌%◌, ◌/◌, ◌^◌, ◌<◌}
 use native.Mathlib.Omega.{arith}
 use mathlib.Core.Path.{◌≡◌, refl, sym, ap, ◌∙◌}
 use mathlib.Core.Bool.{Bool, true, false}
-use mathlib.Core.List.{List, [], ◌∷◌, ◌++◌}
+use mathlib.Core.List.{List, [], ◌∷◌, ◌++◌, append-nil}
 use lib.ListN.{length, get_or, take}
 use Rattle.model.specs.Choice.{choose}
 use Rattle.model.specs.Memory.{Mem, mem, place}
@@ -17,8 +17,8 @@ use Rattle.model.specs.Promised.{Does}
 use Rattle.model.proofs.Hash.{size_most}
 use Rattle.moves.specs.Moves.{MovesIn}
 use Rattle.blocks.specs.Made.{Made}
-use Rattle.blocks.proofs.Budget.{does_as, does_made, does_one, does_refuse}
-use Rattle.moves.proofs.Moving.{moves_then}
+use Rattle.blocks.proofs.Laws.{made_append}
+use Rattle.blocks.proofs.Budget.{does_as, does_made, does_one, does_refuse, stores_append}
 use Rattle.vacancy.specs.Room.{Enterable, entering, entering_by}
 use Rattle.model.specs.declared.Grant.{Grant}
 use Rattle.hashing.specs.declared.Homes.{Homes}
@@ -27,7 +27,7 @@ use Rattle.vacancy.specs.declared.Room.{Room}
 
 -- what the steps of the do take
 module _ {s c i : List ℕ} {h : Homes} {r : Room} {shift visits : ℕ} (a : Enterable (mem s c i) h r shift) (e : r.told ≡ entry.Enters visits) where
-  pub moves_ready : MovesIn (length s / 2 ^ shift) (length c) shift 4 r.found.moves r.found.count
+  pub moves_ready : MovesIn (length s / 2 ^ shift) (length c) shift r.found.moves r.found.count
   moves_ready = a.moves_in visits e
 
   pub shift_small : shift < 64
@@ -53,11 +53,12 @@ module _ (m : Mem) (g : Grant) (h : Homes) (r : Room) where
       (mem m.slots m.counters i) (mem T₁ k₁ i) l)
       → Made (stores_of (enter h.counter r.place r.found.slot (h.tag * 65536 + r.place) g.animal g.permission g.issued)) l (mem T₁ k₁ m.items) m' l'
       → (W : Ways) → W.ways ≡ 2 ^ shift → Does (entering W m g h r) k m m' (stored visits r.found.count)
+  unfolding stores
   enter_made shift {visits} {l' = l'} e moves entry W q =
       let b = enter h.counter r.place r.found.slot (h.tag * 65536 + r.place) g.animal g.permission g.issued in
-      let vs = as_moves (take r.found.count r.found.moves) in
-      does_made {l = l'} (stored visits r.found.count) (move_blocks (shape_of W m) m.slots vs ++ (b ∷ [])) (ap (entering_by W m g h r) e)
-      (moves_then m shift vs b moves entry W q)
+      let bs = move_blocks (shape_of W m) m.slots (as_moves (take r.found.count r.found.moves)) in
+      does_made {l = l'} (stored visits r.found.count) (bs ++ (b ∷ [])) (ap (entering_by W m g h r) e)
+      (rw (stores_append bs (b ∷ []), append-nil (stores_of b)) (made_append (rw (← q) at (moves W (length m.items / 4) m.items q)) entry))
 
 -- the update of a held animal
 pub update_made : (c w : ℕ) (g : Grant) {k l : ℕ} {n n' i i' : List ℕ}

@@ -77,7 +77,7 @@ module _ (W : Ways) (m : Mem) (g : Grant) {h : Homes} (a : Homed W m g.animal h)
 
   -- what the do relies on, where the place is small and the moves can be made
   able : {e : Entering} (p : ℕ) → p < 65536 → {f : Found} (s : ℕ)
-      → ((visits : ℕ) → e ≡ entry.Enters visits → MovesIn (length m.slots / 2 ^ s) (length m.counters) s 4 f.moves f.count)
+      → ((visits : ℕ) → e ≡ entry.Enters visits → MovesIn (length m.slots / 2 ^ s) (length m.counters) s f.moves f.count)
       → Enterable m h (room e p f) s
   able p l s q = record { tag_small = a.homes_are.tag_high; place_small = l; moves_in = q }
 
@@ -148,7 +148,7 @@ module _ (W : Ways) (m : Mem) (g : Grant) {h : Homes} (a : Homed W m g.animal h)
         asked_own = rw (a.homes_are.first_is, a.homes_are.second_is) at (asked_is W m g.animal a)
 
         moves_in : RoomFound W (length m.slots / W.ways) (length m.items / 4) m.slots (Y.first_of g.animal) (second_of Y g.animal) visits r
-            → (s : ℕ) → s < 32 → W.ways ≡ 2 ^ s → MovesIn (length m.slots / 2 ^ s) (length m.counters) s 4 r.moves r.count
+            → (s : ℕ) → s < 32 → W.ways ≡ 2 ^ s → MovesIn (length m.slots / 2 ^ s) (length m.counters) s r.moves r.count
         moves_in t s l q =
             let f = fit W m a.right in
             record {
@@ -156,6 +156,6 @@ module _ (W : Ways) (m : Mem) (g : Grant) {h : Homes} (a : Homed W m g.animal h)
               some = f.some;
               few = f.few_counters;
               narrow = l;
-              not_more = omega (arith, t.few_moves);
-              sources = λ j l k d. omega (arith, sources_in asked_own t j l d, f.slots_fit, mul-le-mul_right W.ways (size_most f.size));
+              four = omega (arith, t.few_moves);
+              sources = λ j l d. omega (arith, sources_in asked_own t j l d, f.slots_fit, mul-le-mul_right W.ways (size_most f.size));
             }

@@ -54,7 +54,7 @@ pub record Enterable (m : Mem) (h : Homes) (r : Room) (shift : ℕ) : Type 0 whe
   pub tag_small : h.tag < 256
   pub place_small : r.place < 65536
   pub moves_in : (visits : ℕ) → r.told ≡ entry.Enters visits
-      → MovesIn (length m.slots / 2 ^ shift) (length m.counters) shift 4 r.found.moves r.found.count
+      → MovesIn (length m.slots / 2 ^ shift) (length m.counters) shift r.found.moves r.found.count
 
 -- what the look gives
 pub record RoomIs (W : Ways) (m : Mem) (g : Grant) (h : Homes) (r : Room) : Type 0 where

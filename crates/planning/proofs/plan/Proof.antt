@@ -1,6 +1,5 @@
 -- `planning::plan` meets its contract. Assumes nothing.
 use borrow.Author.Rules.{rules}
-use Rattle.model.specs.Said.{plan_of}
 use Rattle.planning.proofs.plan.Statement.{statement}
 use Rattle.planning.proofs.plan.Tie as tie
 use Rattle.looking.proofs.Early.{early_passed, passed_lengths}
@@ -10,6 +9,6 @@ pub plan-spec : {M : Type 1} → statement M
 plan-spec =
     tie.close
     (tie.spec
-    (λ c κs. search rules) (λ c κs. search rules) (λ c κs. search rules) (λ c. search (plan_early plan_of)) (λ c κs. search passed_lengths)
+    (λ c κs. search rules) (λ c κs. search rules) (λ c κs. search rules) (λ c. search plan_early) (λ c κs. search passed_lengths)
     (λ c. search rules) (λ c κs. search rules) (λ c. search rules) (λ c κs. search (plan_homed, early_passed)) (λ c. search rules)
-    (λ c κs. search rules) (λ c. search (plan_refused plan_of, early_passed)) (λ c. search (plan_absent plan_of, early_passed)) (λ c. search (plan_held plan_of, early_passed)))
+    (λ c κs. search rules) (λ c. search (plan_refused, early_passed)) (λ c. search (plan_absent, early_passed)) (λ c. search (plan_held, early_passed)))
