@@ -63,9 +63,10 @@ module _ (S : Layout) (T : List ℕ) where
 
   pub visits_level : {v : ℕ} (d : ℕ) (bs : List ℕ) → Mem v (visits S T d bs) → (k : ℕ) × (k ≤ d) × Mem v (level S T k bs)
   unfolding level visits
-  visits_level zero bs q = (0, omega arith, q)
-  visits_level (suc d) bs q =
-      ⊎_elim (λ x. (0, omega arith, x)) (λ y. let r = visits_level d (next_level S T bs) y in (suc r.0, omega arith, r.2))
+  visits_level {v} zero bs q = (0, omega arith, q)
+  visits_level {v} (suc d) bs q =
+      ⊎_elim (λ x. (0, omega arith, x))
+      (λ (y : Mem v (visits S T d (next_level S T bs))). let r = visits_level d (next_level S T bs) y in (suc r.0, omega arith, r.2))
       (append_cases bs q)
 
   -- a bucket within reach is at a level, and at the end of a path; and the other way round
@@ -80,6 +81,6 @@ module _ (S : Layout) (T : List ℕ) where
   reach_walk (onward s h ne r) = let x = reach_walk r in (s ∷ x.0, omega arith, (h, x.2), x.3)
 
   pub walk_reach : {b : ℕ} (p : List ℕ) → Slots S p → Free S T (walk S T b p) → Reach S T (length p) b
-  walk_reach [] h f = reached f
+  walk_reach {b} [] h f = reached f
   walk_reach {b} (s ∷ p) h f =
-      dite (ℕ_discrete (word_in S T b s) 0) (λ e. reached (s, h.0, e)) λ ne. onward s h.0 ne (walk_reach p h.1 f)
+      dite (ℕ_discrete (word_in S T b s) 0) (λ e. reached (s, h.0, e)) λ ne. onward s h.0 ne (walk_reach {b = hop S T b s} p h.1 f)

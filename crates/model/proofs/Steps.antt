@@ -22,16 +22,16 @@ use Rattle.model.specs.Calling.{Call, Typed, about, read, serve, find, set_anima
 module _ (Y : Shape) (L : Lawful Y) (m : Mem) (g : WellFormed Y m) where
   pub step : (c : Call) → Typed c → Step Y (about c) m (call Y m c) (λ f. row_call Y.places f m.items c)
   unfolding hit
-  step (read x limit (λ x. x.now)) h =
-      step_asked Y (λ a. x) m g x (bad_time limit (λ x. x.now)) (row_bad_time Y.places limit (λ x. x.now)) (time_is Y.places limit (λ x. x.now))
-      (tell (judge m.items limit (λ x. x.now) (held Y m x))) (λ f. stay m.items (row_read Y.places m.items limit (λ x. x.now) (walked Y L m g x)))
-      λ nz. as_walked Y L m g (λ a. x) x nz (λ o. tell (judge m.items limit (λ x. x.now) o))
-      (λ o f. stay m.items (row_read Y.places m.items limit (λ x. x.now) o)) λ o k. step_read Y L m g x limit (λ x. x.now) o
-  step (serve x limit (λ x. x.now)) h =
-      step_asked Y (λ a. x) m g x (bad_time limit (λ x. x.now)) (row_bad_time Y.places limit (λ x. x.now)) (time_is Y.places limit (λ x. x.now))
-      (serve_at Y m limit (λ x. x.now) (held Y m x)) (λ f. row_serve Y.places m.items limit (λ x. x.now) (walked Y L m g x))
-      λ nz. as_walked Y L m g (λ a. x) x nz (λ o. serve_at Y m limit (λ x. x.now) o)
-      (λ o f. row_serve Y.places m.items limit (λ x. x.now) o) λ o k. step_serve Y L m g x limit (λ x. x.now) nz k
+  step (read x limit now) h =
+      step_asked Y (λ a. x) m g x (bad_time limit now) (row_bad_time Y.places limit now) (time_is Y.places limit now)
+      (tell (judge m.items limit now (held Y m x))) (λ f. stay m.items (row_read Y.places m.items limit now (walked Y L m g x)))
+      λ nz. as_walked Y L m g (λ a. x) x nz (λ o. tell (judge m.items limit now o))
+      (λ o f. stay m.items (row_read Y.places m.items limit now o)) λ o k. step_read Y L m g x limit now o
+  step (serve x limit now) h =
+      step_asked Y (λ a. x) m g x (bad_time limit now) (row_bad_time Y.places limit now) (time_is Y.places limit now)
+      (serve_at Y m limit now (held Y m x)) (λ f. row_serve Y.places m.items limit now (walked Y L m g x))
+      λ nz. as_walked Y L m g (λ a. x) x nz (λ o. serve_at Y m limit now o)
+      (λ o f. row_serve Y.places m.items limit now o) λ o k. step_serve Y L m g x limit now nz k
   step (find x) h =
       step_asked Y (λ a. x) m g x false false refl (tell (find_at (held Y m x))) (λ f. stay m.items (row_find Y.places (walked Y L m g x)))
       λ nz. as_walked Y L m g (λ a. x) x nz (λ o. tell (find_at o)) (λ o f. stay m.items (row_find Y.places o)) λ o k. step_find Y L m g x o

@@ -117,7 +117,7 @@ module _ (Y : Shape) (x : ℕ) where
   view_stores r [] h zero = r
   view_stores r [] h (suc k) = r
   view_stores r (s ∷ ss) h zero = r
-  view_stores r (s ∷ ss) h (suc k) = view_stores (view_store r s h.0) ss h.1 k
+  view_stores {m = m} r (s ∷ ss) h (suc k) = view_stores {m = apply s m} (view_store r s h.0) ss h.1 k
 
   -- what a reader works out
   module _ {m : Mem} where
