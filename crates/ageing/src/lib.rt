@@ -1,4 +1,6 @@
 // The age of a permission: what is said of a stamp at a minute, under a limit, and how long is left; and the minutes that a set brings.
+#![tactic(auto)]
+
 ghost use Rattle.std.specs.Prelude.{◌≡◌, ◌≤◌, false};
 ghost use Rattle.model.specs.Age.{verdict, left_of, bad_time, bad_grant, late};
 ghost use Rattle.model.specs.Answers.{says_fresh};

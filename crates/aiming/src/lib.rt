@@ -1,4 +1,6 @@
 // What evict is to do: CLOCK's victim, its refusals and its slot, found before any store.
+#![tactic(auto)]
+
 ghost use Rattle.model.specs.Memory.{mem};
 ghost use Rattle.model.specs.Shape.{four};
 ghost use Rattle.aiming.specs.Aiming.{Aimed, AimsAt, Handed, Turns};

@@ -1,4 +1,6 @@
 // Stores under a budget: each block of document 01's stores, of which only the first `left` are made. The rest of the budget comes back.
+#![tactic(auto)]
+
 ghost use Rattle.std.specs.Prelude.{ℕ, ◌+◌, ◌*◌, ◌%◌, ◌^◌, List, slice_index};
 ghost use Rattle.model.specs.Memory.{mem};
 ghost use Rattle.model.specs.Stores.{stores_of, move, enter, update, remove};

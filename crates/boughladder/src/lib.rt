@@ -1,5 +1,7 @@
 // The calls that a cabinet links, as libboughladder.a: C names over numbers and slices, and nothing but the C clothes of each answer. A set
 // in steps has an object of its own, boughladder_steps.
+#![tactic(auto)]
+
 ghost use Rattle.std.specs.Prelude.{◌≡◌};
 ghost use Rattle.model.specs.Memory.{mem};
 ghost use Rattle.model.specs.Shape.{four};

@@ -1,5 +1,7 @@
 // The calls of a set in steps that a cabinet links: an object of its own in libboughladder.a. Set and plan share the search, and in one
 // object it stays a call for both: a set of an absent animal took 10 to 13 ns longer so.
+#![tactic(auto)]
+
 ghost use Rattle.std.specs.Prelude.{◌≡◌};
 ghost use Rattle.model.specs.Memory.{mem};
 ghost use Rattle.model.specs.Shape.{four};

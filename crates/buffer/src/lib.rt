@@ -1,4 +1,6 @@
 // Bytes into a lent buffer, from a position on; each gives the position behind them.
+#![tactic(auto)]
+
 ghost use Rattle.std.specs.Prelude.{◌+◌, ◌≤◌, length};
 ghost use Rattle.model.specs.Hash.{bytes};
 ghost use Rattle.buffer.specs.Put.{Put};

@@ -1,4 +1,6 @@
 // The C clothes of each answer: document 01's number and values of it, as the fields of a reply.
+#![tactic(auto)]
+
 ghost use Rattle.std.specs.Prelude.{◌≡◌, List, ℕ, ◌<◌};
 ghost use Rattle.model.specs.Said.{said_reading, said_finding, said_setting, said_deleting, said_evicting, said_listing, said_starting, said_move, said_entry};
 ghost use Rattle.judgement.specs.Said.{said};

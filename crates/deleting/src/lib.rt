@@ -1,4 +1,6 @@
 // Delete, whole and cut: what it is to do is known before any store, and then done.
+#![tactic(auto)]
+
 ghost use Rattle.std.specs.Prelude.{◌≡◌, false, true};
 ghost use Rattle.model.specs.Memory.{mem};
 ghost use Rattle.model.specs.Shape.{four, right_lengths};

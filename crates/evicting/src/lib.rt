@@ -1,4 +1,6 @@
 // Evict, whole and cut: CLOCK's victim is found before any store; then what the hand passed is cleared, and the victim goes.
+#![tactic(auto)]
+
 ghost use Rattle.std.specs.Prelude.{◌≡◌, List, [], ◌&&◌, ℕ, ◌+◌, ◌-◌, ◌*◌, ◌<◌, ◌≤◌, min, length};
 ghost use Rattle.model.specs.Memory.{mem, live, is_recent};
 ghost use Rattle.model.specs.Shape.{four};

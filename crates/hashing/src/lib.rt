@@ -1,4 +1,6 @@
 // From an animal's number to its tag, its two buckets and its counter; and the test of the three lengths.
+#![tactic(auto)]
+
 ghost use Rattle.std.specs.Prelude.{◌≡◌, ◌*◌, ◌%◌, ◌^◌, ◌<◌, min};
 ghost use Rattle.model.specs.Hash.{fnv_step, hash, tag_from, odd_up, Size, spread, other_bucket};
 ghost use Rattle.model.specs.Shape.{good_slots, good_lengths, four};

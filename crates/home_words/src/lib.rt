@@ -1,4 +1,6 @@
 // The words of an animal's home slots: damage, the words with its tag, the hit.
+#![tactic(auto)]
+
 ghost use Rattle.std.specs.Prelude.{◌≡◌, false, [], ◌∷◌, ◌+◌, ◌*◌, ◌/◌, ◌<◌, ◌≤◌, suc, length};
 ghost use Rattle.model.specs.Choice.{any, first};
 ghost use Rattle.model.specs.Memory.{damaged};

@@ -1,4 +1,6 @@
 // Conditions 1, 2, 3, 7 and 8 of wish 5, each by one walk to the lowest number that breaks it.
+#![tactic(auto)]
+
 ghost use Rattle.std.specs.Prelude.{◌≡◌, not, ◌&&◌, ◌/◌, ◌%◌, ◌^◌, length, eqb, leb};
 ghost use Rattle.model.specs.Choice.{first, range};
 ghost use Rattle.model.specs.Shape.{four, good_counters, good_items};

@@ -1,4 +1,6 @@
 // The judge program: a dump is loaded line by line, and judged.
+#![tactic(auto)]
+
 ghost use Rattle.std.specs.Prelude.{◌≡◌, ◌+◌, ◌≤◌, length};
 ghost use Rattle.buffer.specs.Put.{Put};
 ghost use Rattle.replay_loads.specs.Load.{loading};

@@ -1,4 +1,5 @@
 // The types of wish 5. What a judgement is stands in specs/, the proofs in proofs/.
+#![tactic(auto)]
 
 // The lowest number that breaks a condition; or nothing breaks it.
 #[derive(Drop)]

@@ -1,4 +1,6 @@
 // Judging a memory dump: wish 5's eight conditions in turn. The first that is broken is told, with the lowest number that breaks it.
+#![tactic(auto)]
+
 ghost use Rattle.std.specs.Prelude.{◌≡◌};
 ghost use Rattle.model.specs.Memory.{mem};
 ghost use Rattle.model.specs.Shape.{four};

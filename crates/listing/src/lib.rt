@@ -1,4 +1,6 @@
 // The list: the live places in place order, 20 bytes each.
+#![tactic(auto)]
+
 ghost use Rattle.std.specs.Prelude.{◌≡◌, ◌++◌, ◌+◌, ◌*◌, ◌<◌, ◌≤◌, length, drop};
 ghost use Rattle.model.specs.Choice.{choose, range};
 ghost use Rattle.model.specs.Memory.{mem, live};

@@ -1,4 +1,6 @@
 // What every call about an animal looks at: its home words, judged and compared once, and the slot of a word.
+#![tactic(auto)]
+
 ghost use Rattle.std.specs.Prelude.{◌≡◌, ◌++◌, ◌+◌, ◌*◌, ◌%◌, ◌<◌, ◌≤◌, length, get_or, eqb, true};
 ghost use Rattle.model.specs.Choice.{choose, first, range};
 ghost use Rattle.model.specs.Memory.{mem};

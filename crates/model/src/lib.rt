@@ -1,5 +1,6 @@
 // The types that every crate shares: what each call answers. The meaning of document 01, and of the wishes that have landed, stands in specs/,
 // the proofs in proofs/.
+#![tactic(auto)]
 
 // What a set takes: the minute of issue and the minute of the call beside the animal and its permission.
 #[derive(Drop)]
@@ -12,7 +13,7 @@ pub struct Grant {
 
 // A move: the slot that it empties, the tag of the entry there, and the slot that the entry goes to. A cabinet passes it as it is.
 #[repr(C)]
-#[derive(Drop)]
+#[derive(Clone, Copy)]
 pub struct MoveRecord {
     pub from: usize,
     pub tag: u32,

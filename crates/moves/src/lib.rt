@@ -1,4 +1,6 @@
 // The moves of a path, far end first, under a budget. The ways of a table come in as a shift: it has 2^shift slots a bucket.
+#![tactic(auto)]
+
 ghost use Rattle.std.specs.Prelude.{◌≡◌, List, ℕ, ◌^◌, length, take};
 ghost use Rattle.model.specs.Memory.{mem};
 ghost use Rattle.model.specs.Shape.{Ways, shape};

@@ -1,4 +1,6 @@
 // The parts of the search for room: the words of a bucket, the visits that they lead to, and the moves back from a free slot.
+#![tactic(auto)]
+
 ghost use Rattle.std.specs.Prelude.{ℕ, ◌+◌, ◌*◌, ◌<◌, ◌≤◌, ◌≡◌, [], length, eqb};
 ghost use Rattle.model.specs.Choice.{choose};
 ghost use Rattle.model.specs.Memory.{tag};
@@ -10,7 +12,7 @@ ghost use Rattle.paths.specs.Path.{BackFrom, buckets_of, no_room, room_at, room_
 use model::MoveRecord;
 
 // A visit's bucket. What put it into the queue is told by its position.
-#[derive(Drop)]
+#[derive(Clone, Copy)]
 pub struct Entry {
     pub bucket: u16,
 }

@@ -1,4 +1,6 @@
 // Walks over the item words, four to a place: the clock hand and its victim, the first place with a number, the lowest vacant one.
+#![tactic(auto)]
+
 ghost use Rattle.std.specs.Prelude.{◌≡◌, ◌+◌, ◌*◌, ◌<◌, ◌≤◌, length};
 ghost use Rattle.model.specs.Clock.{next_hand, victim};
 ghost use Rattle.model.specs.Calls.{vacant_place};

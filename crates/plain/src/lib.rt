@@ -1,4 +1,6 @@
 // The plain engine: a reader for the auditor that knows no hashing. It walks the places in order and answers from the item words alone.
+#![tactic(auto)]
+
 ghost use Rattle.std.specs.Prelude.{◌≡◌, false, ◌+◌, ◌*◌, ◌≤◌, length};
 ghost use Rattle.model.specs.Memory.{permission, stamp};
 ghost use Rattle.model.specs.Shape.{good_items};

@@ -1,4 +1,6 @@
 // Conditions 4, 5 and 6 of wish 5: slots and the places they point to. 5 and 6 look at an animal's home slots only, so that the time is linear.
+#![tactic(auto)]
+
 ghost use Rattle.std.specs.Prelude.{◌≡◌, [], ◌∷◌, true, ◌+◌, ◌*◌, ◌/◌, ◌<◌, ◌≤◌, length};
 ghost use Rattle.model.specs.Choice.{any, first, range};
 ghost use Rattle.model.specs.Memory.{mem, place};

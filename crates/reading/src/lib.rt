@@ -1,4 +1,6 @@
 // Read, serve and find.
+#![tactic(auto)]
+
 ghost use Rattle.std.specs.Prelude.{◌≡◌, false, ◌+◌, ◌*◌, ◌≤◌, length, set};
 ghost use Rattle.model.specs.Choice.{choose};
 ghost use Rattle.model.specs.Memory.{mem, permission, stamp};

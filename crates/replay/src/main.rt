@@ -1,4 +1,5 @@
 // The replay program, for files of up to two mebibytes. They stand on its stack, so it wants four of them.
+#![tactic(auto)]
 
 // It says nothing of its elements, so that no proof counts them.
 fn space() -> [u8; 2097152] {

@@ -1,4 +1,6 @@
 // The table's answers as the replay program's lines: each function writes from `at` on and gives the position behind.
+#![tactic(auto)]
+
 ghost use Rattle.std.specs.Prelude.{◌+◌, ◌*◌, ◌≤◌, length, take};
 ghost use Rattle.buffer.specs.Put.{Put};
 ghost use Rattle.model.specs.Memory.{mem};

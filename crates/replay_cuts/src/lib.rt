@@ -1,4 +1,6 @@
 // The lines of a replay that cut a call behind its first k stores.
+#![tactic(auto)]
+
 ghost use Rattle.std.specs.Prelude.{◌≡◌, ◌≤◌, length};
 ghost use Rattle.model.specs.Memory.{mem};
 ghost use Rattle.replay_rows.specs.World.{Ample, Replied, world};

@@ -1,4 +1,6 @@
 // A line's number and its call as it was understood, which `--echo` shows before the answer. Each function writes from `at` on and gives the position behind.
+#![tactic(auto)]
+
 ghost use Rattle.std.specs.Prelude.{◌≡◌, [], ◌+◌, ◌*◌, ◌<◌, ◌≤◌, length, get_or};
 ghost use Rattle.buffer.specs.Put.{Put};
 ghost use Rattle.replay_words.specs.Words.{lines};

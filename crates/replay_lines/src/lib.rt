@@ -1,4 +1,6 @@
 // The replay program's language: which row of a table a line follows, or why it follows none. No input or output.
+#![tactic(auto)]
+
 ghost use Rattle.std.specs.Prelude.{◌≡◌, length, set};
 ghost use Rattle.std.proofs.Math.Option.{none};
 ghost use Rattle.replay_words.specs.Words.{lines, number, words};

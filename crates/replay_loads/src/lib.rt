@@ -1,4 +1,6 @@
 // A line of a dump: which run it loads, and its words into a lent run. No input or output.
+#![tactic(auto)]
+
 ghost use Rattle.std.specs.Prelude.{◌≡◌, ◌≤◌, length, set, drop};
 ghost use Rattle.replay_words.specs.Words.{words};
 ghost use Rattle.replay_loads.specs.Load.{run_named, top_of, weighed, loading};

@@ -1,4 +1,6 @@
 // Replays the lines of a text, one after the other, and hands over their answers in portions.
+#![tactic(auto)]
+
 ghost use Rattle.std.specs.Prelude.{◌≡◌, ◌+◌, ◌<◌, ◌≤◌, length};
 ghost use Rattle.replay_rows.specs.World.{longest_line};
 ghost use Rattle.replay_rows.specs.Replayed.{language};

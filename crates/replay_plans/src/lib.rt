@@ -1,4 +1,6 @@
 // The lines of a replay that are a set in steps: a plan, one whole move, the final store.
+#![tactic(auto)]
+
 ghost use Rattle.std.specs.Prelude.{◌≡◌, ◌+◌, ◌≤◌, eqb, length};
 ghost use Rattle.model.specs.Memory.{mem, tag};
 ghost use Rattle.model.specs.Calling.{plan_set, step_enter, step_move};

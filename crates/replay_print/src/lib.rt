@@ -1,4 +1,6 @@
 // What the replay program prints, in bytes: numbers, lines of words and numbers, records. Each function writes from `at` on and gives the position behind.
+#![tactic(auto)]
+
 ghost use Rattle.std.specs.Prelude.{◌≡◌, ◌+◌, ◌*◌, ◌%◌, ◌<◌, ◌≤◌, [], length, pos, nat_abs, ◌<ℤ◌};
 ghost use Rattle.buffer.specs.Put.{Put};
 ghost use Rattle.replay_print.specs.Print.{decimal_of, signed_of, hex_digit, hex_of, line, numbered, told, signed_line, hexes, record_lines};

@@ -1,5 +1,7 @@
 // What the replay program is asked for by its arguments, and does, with the memory that it is lent for a file.
 // A program of the kit ends with status 0 always: with --status the status goes to descriptor 3 as a digit, where ./replay takes it.
+#![tactic(auto)]
+
 ghost use Rattle.std.specs.Prelude.{◌≡◌, ◌≢◌, true, ◌+◌, ◌≤◌, length};
 ghost use Rattle.replay_rows.specs.Replayed.{missed, status as status-of};
 

@@ -1,4 +1,6 @@
 // One line of a text and its reply: a call, or a run of a dump.
+#![tactic(auto)]
+
 ghost use Rattle.std.specs.Prelude.{◌≡◌, ◌+◌, ◌<◌, ◌≤◌, length, get_or};
 ghost use Rattle.replay_loads.specs.Load.{loading};
 ghost use Rattle.replay_loads.specs.Cursor.{measured};

@@ -1,4 +1,6 @@
 // The replay program's language: its rows and what they mean stand in specs/. Here is what is asked of a row beside that, and what a line's turn gives back.
+#![tactic(auto)]
+
 ghost use Rattle.std.specs.Prelude.{◌≡◌, ◌+◌, ◌≤◌, length};
 ghost use Rattle.buffer.specs.Put.{Put};
 ghost use Rattle.replay_rows.specs.World.{longest_call};

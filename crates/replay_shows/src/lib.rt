@@ -1,4 +1,6 @@
 // The lines of a replay beside the table's calls: the hand, the list, a poke, a dump, the plain engine, the judge, and what is not understood.
+#![tactic(auto)]
+
 ghost use Rattle.std.specs.Prelude.{◌≡◌, ◌⊎◌, ◌≢◌, ◌+◌, ◌*◌, ◌≤◌, ◌<◌, min, length};
 ghost use Rattle.model.specs.Memory.{mem};
 ghost use Rattle.model.specs.Shape.{four};

@@ -1,4 +1,6 @@
 // One line of a replay, fresh too, on the runs in use.
+#![tactic(auto)]
+
 ghost use Rattle.std.specs.Prelude.{◌≡◌, ◌+◌, ◌≤◌, length};
 ghost use Rattle.replay_rows.specs.Meaning.{meaning, starts};
 ghost use Rattle.replay_rows.specs.World.{longest};

@@ -1,4 +1,6 @@
 // One line of a replay on the table there is: the row it follows says which call it makes.
+#![tactic(auto)]
+
 ghost use Rattle.std.specs.Prelude.{◌≡◌, ◌≢◌, ◌≤◌, length};
 ghost use Rattle.model.specs.Memory.{mem};
 ghost use Rattle.replay_rows.specs.World.{Ample, Replied, world};

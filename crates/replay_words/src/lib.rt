@@ -1,4 +1,6 @@
 // The words and numbers of a line of the replay program. No input or output.
+#![tactic(auto)]
+
 ghost use Rattle.std.specs.Prelude.{◌≡◌, ◌<◌, ◌≤◌, length};
 ghost use Rattle.model.specs.Choice.{choose};
 ghost use Rattle.replay_words.specs.Words.{sought, is_end, is_comment, is_gap, is_no_gap, mark_length, same, is_digit, all_digits, number, signed, whole, negative};

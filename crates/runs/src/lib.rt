@@ -1,4 +1,6 @@
 // The words of a lent run: read anywhere, judged, and set to zero.
+#![tactic(auto)]
+
 ghost use Rattle.std.specs.Prelude.{◌≡◌, length, get_or, replicate};
 ghost use Rattle.model.specs.Memory.{damaged};
 

@@ -1,4 +1,6 @@
 // samples/late.calls, replayed in the gate: its answers stand in the file stdout.
+#![tactic(auto)]
+
 use libc::STDIN_FILENO;
 
 fn main() {

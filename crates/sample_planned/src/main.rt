@@ -1,5 +1,7 @@
 // A set in steps as a Rattle program makes it: the plan goes along by value, four records, and each step says which of them it makes.
 // Beside it a set, on a table with the same words.
+#![tactic(auto)]
+
 ghost use Rattle.std.specs.Prelude.{◌+◌, ◌≤◌, length};
 
 use libc::STDOUT_FILENO;

@@ -1,5 +1,7 @@
 // Document 01's examples that no statement proves, the published FNV-1a vectors, and signed numbers read and printed: each on a line of
 // its own.
+#![tactic(auto)]
+
 ghost use Rattle.std.specs.Prelude.{◌≡◌, ◌≤◌, length};
 ghost use Rattle.model.specs.Hash.{fnv};
 

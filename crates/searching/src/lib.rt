@@ -1,4 +1,6 @@
 // The breadth-first search for room: the buckets that it visits, and how it ends.
+#![tactic(auto)]
+
 ghost use Rattle.model.specs.Shape.{four};
 ghost use Rattle.searching.specs.Search.{Asked, FoundIs};
 

@@ -1,4 +1,6 @@
 // Set, whole and cut: an update of a held animal, or the moves of the search and a new entry.
+#![tactic(auto)]
+
 ghost use Rattle.std.specs.Prelude.{◌≡◌, true, List, ℕ, ◌+◌, ◌*◌, ◌%◌, ◌^◌, ◌≤◌, length};
 ghost use Rattle.model.specs.Memory.{mem, place};
 ghost use Rattle.model.specs.Shape.{Ways, four, right_lengths};

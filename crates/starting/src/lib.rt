@@ -1,4 +1,6 @@
 // Fresh: zero in every word of three lent runs.
+#![tactic(auto)]
+
 ghost use Rattle.model.specs.Memory.{mem};
 ghost use Rattle.model.specs.Shape.{four};
 ghost use Rattle.model.specs.Said.{said_starting};

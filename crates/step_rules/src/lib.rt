@@ -1,5 +1,7 @@
 // The rule of a step by the words that it finds. Nothing is read here: whoever asks brings the words, of the table or of one that moves
 // would leave. The ways of a table come in as a shift: it has 2^shift slots a bucket.
+#![tactic(auto)]
+
 ghost use Rattle.std.specs.Prelude.{◌^◌, ◌≤◌, ◌<◌, ◌≡◌};
 ghost use Rattle.model.specs.Hash.{Size};
 ghost use Rattle.step_rules.specs.Rules.{enters_by, moves_by};

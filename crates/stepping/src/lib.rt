@@ -1,4 +1,6 @@
 // A set in steps: one whole move of a plan, or its final store, each made exactly if its conditions hold on the table that it finds.
+#![tactic(auto)]
+
 ghost use Rattle.std.specs.Prelude.{◌≡◌, List, ℕ, ◌^◌, ◌/◌, length, get_or};
 ghost use Rattle.model.specs.Memory.{mem};
 ghost use Rattle.model.specs.Shape.{Ways, four, shape_of};

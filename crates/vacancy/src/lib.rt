@@ -1,4 +1,6 @@
 // Where an absent animal would go: the lowest vacant place, and the room that the search finds. Set's look, and plan's.
+#![tactic(auto)]
+
 ghost use Rattle.model.specs.Memory.{mem};
 ghost use Rattle.model.specs.Shape.{four};
 ghost use Rattle.vacancy.specs.Room.{Homed, RoomIs};
