@@ -1,29 +1,29 @@
 -- `paths::path_back` meets its contract: the moves that are made out and those that are left complete the path. Assumes nothing.
 use Prim.Native.Nat.{◌<◌}
 use native.Mathlib.Omega.{arith}
-use mathlib.Core.Logic.{⊎_elim, inl, inr}
+use mathlib.Core.Logic.{inl, inr}
 use lib.ListN.{length}
 use Rattle.paths.proofs.Back.{back_begins, back_ends, back_goes, source_in}
 use borrow.Author.Rules.{rules}
 use Rattle.paths.proofs.path_back.Goals as goal
-
--- the source of the next move lies in the table
-source : (c : tie.After-slot-in2 invariant-back decreases-back) → c.slot_in-from.result < length c.args.slots.now
-source c =
-    let low = c.back.invariant.under in
-    source_in _ c.args.t1 _ _ c.requires c.slot_in-from.ensures (omega arith) (omega arith)
+use Rattle.paths.proofs.path_back.Goals.{else-back-test, then-back-test+then-at-lt2}
 
 pub back-init : goal.back-init
 back-init c = search back_begins
 
 pub offset_bounds-slots-from : goal.offset_bounds-slots-from
-offset_bounds-slots-from c = let h = source c in search rules
+offset_bounds-slots-from c =
+    let low = c.back.invariant.under in
+    let h : c.slot_in-from.result < length c.args.slots.now = source_in _ c.args.queue _ _ c.requires c.slot_in-from.ensures (omega arith) (omega arith) in
+    search rules
 
 pub bounds-slots-from : goal.bounds-slots-from
-bounds-slots-from c = source c
+bounds-slots-from c =
+    let low = c.back.invariant.under in
+    source_in _ c.args.queue _ _ c.requires c.slot_in-from.ensures (omega arith) (omega arith)
 
 pub back-preserved : goal.back-preserved
 back-preserved c = search back_goes
 
 pub returns : goal.returns
-returns c = back_ends _ _ _ _ c.back.invariant (⊎_elim (λ w. inl w.left) (λ w. inr w.1.taken) c.back-test.branch)
+returns c = back_ends _ _ _ _ c.back.invariant (elim c.back-test.branch [ else-back-test w ↦ inl (omega arith) | then-back-test+then-at-lt2 w ↦ inr (omega arith) ])
