@@ -3,7 +3,7 @@
 #![tactic(auto)]
 
 // What a set takes: the minute of issue and the minute of the call beside the animal and its permission.
-#[derive(Drop)]
+#[derive(Clone, Copy)]
 pub struct Grant {
     pub animal: u64,
     pub permission: u32,
@@ -21,7 +21,7 @@ pub struct MoveRecord {
 }
 
 // Read, serve and the plain engine: the minutes that are left of the limit, negative when overdue.
-#[derive(Drop)]
+#[derive(Clone, Copy)]
 pub enum Reading {
     Absent,
     Fresh { permission: u32, left: i64 },
@@ -31,7 +31,7 @@ pub enum Reading {
 }
 
 // Find: the place of the animal.
-#[derive(Drop)]
+#[derive(Clone, Copy)]
 pub enum Finding {
     Absent,
     At(usize),
@@ -39,14 +39,14 @@ pub enum Finding {
 }
 
 // Set: the buckets visited and the moves made.
-#[derive(Drop)]
+#[derive(Clone, Copy)]
 pub enum Setting {
     Stored { visits: usize, moves: usize },
     Refused(u32),
 }
 
 // Plan: whether there is one.
-#[derive(Drop)]
+#[derive(Clone, Copy)]
 pub enum Planning {
     Planned,
     Refused(u32),
@@ -54,7 +54,7 @@ pub enum Planning {
 
 // A plan: the first `count` of its moves, in the order of making, then the place and the slot of the final store. An enum holds no array,
 // so whether it was refused stands beside.
-#[derive(Drop)]
+#[derive(Clone, Copy)]
 pub struct Plan {
     pub told: Planning,
     pub moves: [MoveRecord; 4],
@@ -64,35 +64,35 @@ pub struct Plan {
 }
 
 // A step: one whole move of a plan, or its final store.
-#[derive(Drop)]
+#[derive(Clone, Copy)]
 pub enum Stepping {
     Made,
     Refused(u32),
 }
 
 // Delete.
-#[derive(Drop)]
+#[derive(Clone, Copy)]
 pub enum Deleting {
     Deleted,
     Refused(u32),
 }
 
 // Evict: the victim's number and the places looked at. The hand comes back beside it.
-#[derive(Drop)]
+#[derive(Clone, Copy)]
 pub enum Evicting {
     Evicted { victim: u64, looked: usize },
     Refused(u32),
 }
 
 // The list: how many records were written.
-#[derive(Drop)]
+#[derive(Clone, Copy)]
 pub enum Listing {
     Listed(usize),
     Refused(u32),
 }
 
 // Fresh.
-#[derive(Drop)]
+#[derive(Clone, Copy)]
 pub enum Starting {
     Started,
     Refused(u32),

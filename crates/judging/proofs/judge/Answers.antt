@@ -11,7 +11,7 @@ returns-in-At c = search by_one
 
 pub overflow_cast-items : goal.overflow_cast-items
 overflow_cast-items c =
-    let right = right_now (mem c.args.slots.now c.args.counters.now c.args.items.now) c.misshapen_run-shape.ensures c.enum_told-1.given.1 in
+    let right = right_now (mem c.args.slots.now c.args.counters.now c.args.items.now) c.misshapen_run-shape.ensures ? in
     record { fits = omega (arith, (fit four (mem c.args.slots.now c.args.counters.now c.args.items.now) right).few) }
 
 pub returns-in-At-damage : goal.returns-in-At-damage
