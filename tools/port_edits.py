@@ -91,6 +91,16 @@ def tried(crate, edit):
     return f"changes nothing in {', '.join(same)}" if same else ""
 
 
+def unread(edit):
+    """What today's antt would not read in a new text, or nothing: a dash in a name, a projection with a space before its dot."""
+    for path, of in edit:
+        for _, new in of:
+            text = re.sub(r'"[^"]*"', "", new)
+            if path.endswith(".antt") and re.search(r"[^\W\d_]-[^\W\d_]|[\w)] \.\w|\w·\w|\b_\S+_\b", text):
+                return f"old spelling: {new}"
+    return ""
+
+
 def main():
     if len(sys.argv) != 2:
         raise SystemExit(__doc__)
@@ -111,7 +121,7 @@ def main():
             now = written(edit)
         if [f for f, _ in pairs(now)] != [f for f, _ in pairs(was)]:
             wrong.append(f"{path}: other files than landed")
-        told = tried(crate, pairs(now))
+        told = tried(crate, pairs(now)) or unread(pairs(now))
         if told:
             wrong.append(f"{path}: {told}")
         turned += now != was
