@@ -18,7 +18,7 @@ pub struct Entry {
 }
 
 // How the search ends. Where it finds room, `visits` counts the buckets that it visited.
-#[derive(Drop)]
+#[derive(Clone, Copy)]
 pub enum Ending {
     Damaged,
     Nowhere,
@@ -26,7 +26,7 @@ pub enum Ending {
 }
 
 // Where there is room: the first `count` records are the moves, the far end first, and `slot` is free after them.
-#[derive(Drop)]
+#[derive(Clone, Copy)]
 pub struct Found {
     pub ending: Ending,
     pub count: usize,
