@@ -6,7 +6,7 @@ ghost use Rattle.buffer.specs.Put.{Put};
 ghost use Rattle.model.specs.Memory.{mem};
 ghost use Rattle.model.specs.Answers.{listed, planned, refused};
 ghost use Rattle.model.specs.Said.{said_reading, said_setting, said_plan, said_move, said_entry, said_deleting, said_evicting, said_listing, said_starting};
-ghost use Rattle.judgement.specs.Said.{said as said-judgement};
+ghost use Rattle.judgement.specs.Said.{said as said_judgement};
 ghost use Rattle.replay_answers.specs.Text.{text, Counted, reason, not_understood, dump, judged, poke_told};
 ghost use Rattle.replay_print.specs.Print.{line};
 
@@ -236,7 +236,7 @@ pub fn put_poked(buffer: &mut [u8], at: usize, poked: bool) -> usize
 // Yes, or no with the condition and the number that breaks it.
 pub fn put_judgement(buffer: &mut [u8], at: usize, said: Judgement) -> usize
     requires { at + 384 ≤ length buffer.old }
-    ensures { Put (judged (said-judgement said)) at buffer.old buffer.new result × (result ≤ at + 384) }
+    ensures { Put (judged (said_judgement said)) at buffer.old buffer.new result × (result ≤ at + 384) }
 {
     match said {
         Judgement::Sound => replay_print::put_line(buffer, at, b"yes"),

@@ -5,8 +5,8 @@ ghost use Rattle.std.specs.Prelude.{◌≡◌, length, set};
 ghost use Rattle.std.proofs.Math.Option.{none};
 ghost use Rattle.replay_words.specs.Words.{lines, number, words};
 ghost use Rattle.replay_words.specs.Cursor.{told as number_told};
-ghost use Rattle.replay_lines.specs.Taking.{alone, bound, taken, taken_up_to, takes as it-takes};
-ghost use Rattle.replay_lines.specs.Reasons.{behind as behind-row, instead as instead-of, parting, parts, further as the-further, why_not};
+ghost use Rattle.replay_lines.specs.Taking.{alone, bound, taken, taken_up_to, takes as it_takes};
+ghost use Rattle.replay_lines.specs.Reasons.{behind as behind_row, instead as instead_of, parting, parts, further as the_further, why_not};
 ghost use Rattle.replay_lines.specs.Line.{said_by, said, padded};
 ghost use Rattle.replay_lines.specs.Cursor.{told, Body, Fits, Follows, Parts, WithoutReturn};
 
@@ -80,7 +80,7 @@ fn take_word(wanted: &[u8], word: &[u8]) -> Taken
 
 // Whether a word of a row fits a word of a line.
 fn takes(wanted: &[u8], word: &[u8]) -> bool
-    ensures { result ≡ it-takes wanted.now word.now }
+    ensures { result ≡ it_takes wanted.now word.now }
 {
     match take_word(wanted, word) {
         Taken::No => false,
@@ -129,7 +129,7 @@ fn fits(row: &[u8], line: &[u8], numbers: &mut [u64]) -> bool
 
 // Why a line goes on behind a row's end.
 fn behind(word: &[u8]) -> u64
-    ensures { result ≡ behind-row word.now }
+    ensures { result ≡ behind_row word.now }
 {
     if replay_words::all_digits(word) {
         return TOO_MANY;
@@ -139,7 +139,7 @@ fn behind(word: &[u8]) -> u64
 
 // Why a row does not take a word, given the largest number that it would have taken.
 pub fn instead(bound: Number, word: &[u8]) -> u64
-    ensures { result ≡ instead-of (number_told bound) word.now }
+    ensures { result ≡ instead_of (number_told bound) word.now }
 {
     match bound {
         Number::Not => UNKNOWN_WORD,
@@ -192,7 +192,7 @@ fn part_from(row: &[u8], line: &[u8]) -> Parting
 
 // The one that goes further, of equals the first.
 fn further(a: Parting, b: Parting) -> Parting
-    ensures { Parts (the-further (parts a.far a.why) (parts b.far b.why)) result }
+    ensures { Parts (the_further (parts a.far a.why) (parts b.far b.why)) result }
 {
     if b.far <= a.far {
         return a;

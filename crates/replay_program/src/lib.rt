@@ -3,7 +3,7 @@
 #![tactic(auto)]
 
 ghost use Rattle.std.specs.Prelude.{◌≡◌, ◌≢◌, true, ◌+◌, ◌≤◌, length};
-ghost use Rattle.replay_rows.specs.Replayed.{missed, status as status-of};
+ghost use Rattle.replay_rows.specs.Replayed.{missed, status as status_of};
 
 use libc::{STDERR_FILENO, STDIN_FILENO};
 
@@ -19,7 +19,7 @@ fn say(words: &[u8]) {
 // The status of a text that was read: but for 1 it tells whether some line was not understood.
 fn replay_text(calls: &[u8], echo: bool) -> u8
     requires { length calls.now ≤ 2097152 }
-    ensures { (result ≤ 2) × (result ≢ 1 → result ≡ status-of true (missed calls.now)) }
+    ensures { (result ≤ 2) × (result ≢ 1 → result ≡ status_of true (missed calls.now)) }
 {
     let done = replay_loop::replay(calls, echo);
     if !done.whole {

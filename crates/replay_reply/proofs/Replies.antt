@@ -13,7 +13,7 @@ use Rattle.model.specs.Answers.{refused}
 use Rattle.buffer.specs.Put.{Put}
 use Rattle.buffer.proofs.Putting.{put_both}
 use Rattle.replay_print.specs.Text.{bytes}
-use Rattle.replay_print.specs.Print.{line as Line_of}
+use Rattle.replay_print.specs.Print.{line as line_of}
 use Rattle.replay_lines.specs.Line.{said, padded}
 use Rattle.replay_loads.specs.Load.{Load, faulty, loading, loads, other, top_of}
 use Rattle.replay_loads.specs.Cursor.{PouredLine, measured}
@@ -227,7 +227,7 @@ module _ (line : List ℕ) {slots counters items : List ℕ} {st : State} {run c
 -- a run that is loaded
 pub load_made : (e : Bool) (slots counters items line : List ℕ) {slots' counters' items' out middle out' : List ℕ} {st here r : State} {run count room at end : ℕ}
     → measures.Loads run count ≡ measured (loading line) → room ≡ room_of run → count ≤ room → Put (shown_load e (st.number + 1) run) st.at out middle at
-    → at ≤ st.at + longest_call → Put (Line_of (bytes "loaded")) at middle out' end → Behind st end 0 here
+    → at ≤ st.at + longest_call → Put (line_of (bytes "loaded")) at middle out' end → Behind st end 0 here
     → Replaced line run slots counters items here r slots' counters' items'
     → Answers (reply_by (loading line) e (st.number + 1) (in_use slots counters items st) line) (unheard_by (loading line)) st r slots' counters' items' out out'
 unfolding loads_run

@@ -5,7 +5,7 @@ ghost use Rattle.std.specs.Prelude.{◌≡◌, ◌+◌, ◌≤◌, length};
 ghost use Rattle.buffer.specs.Put.{Put};
 ghost use Rattle.replay_rows.specs.World.{longest_call};
 ghost use Rattle.replay_rows.specs.Loaded.{shown_load};
-ghost use Rattle.replay_rows.specs.Replayed.{language, shown, status as status-of};
+ghost use Rattle.replay_rows.specs.Replayed.{language, shown, status as status_of};
 
 // The position behind the answer, and the hand afterwards.
 #[derive(Drop)]
@@ -54,7 +54,7 @@ pub fn show_load(echo: bool, run: usize, number: u64, out: &mut [u8], at: usize)
 
 // The status of a replay: whether its answers could be written, and how many of its lines were not understood.
 pub fn status(written: bool, missed: u64) -> u8
-    ensures { result ≡ status-of written missed }
+    ensures { result ≡ status_of written missed }
 {
     if !written {
         return 1;
