@@ -9,7 +9,7 @@ use looking::Slot;
 use places::{Hand, Scan};
 
 // The victim's number and place, the places looked at, and the victim's counter and slot.
-#[derive(Drop)]
+#[derive(Clone, Copy)]
 pub struct Target {
     pub animal: u64,
     pub place: u32,

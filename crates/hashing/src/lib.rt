@@ -115,7 +115,7 @@ fn counter_of(b: u32, n: u32, v: u32) -> u32
 }
 
 // An animal's tag, first bucket, other bucket and counter.
-#[derive(Drop)]
+#[derive(Clone, Copy)]
 pub struct Homes {
     pub tag: u32,
     pub first: u32,

@@ -7,7 +7,7 @@ ghost use Rattle.model.specs.Memory.{damaged};
 ghost use Rattle.home_words.specs.HomeWords.{eight_words, found_word, home_words, leads, or_else, tag_sum};
 
 // The words of the eight home slots, first bucket first.
-#[derive(Drop)]
+#[derive(Clone, Copy)]
 pub struct Eight {
     pub w0: u32,
     pub w1: u32,

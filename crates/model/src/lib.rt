@@ -3,7 +3,7 @@
 #![tactic(auto)]
 
 // What a set takes: the minute of issue and the minute of the call beside the animal and its permission.
-#[derive(Drop)]
+#[derive(Clone, Copy)]
 pub struct Grant {
     pub animal: u64,
     pub permission: u32,
@@ -21,7 +21,7 @@ pub struct MoveRecord {
 }
 
 // Read, serve and the plain engine: the minutes that are left of the limit, negative when overdue.
-#[derive(Drop)]
+#[derive(Clone, Copy)]
 pub enum Reading {
     Absent,
     Fresh { permission: u32, left: i64 },
@@ -46,7 +46,7 @@ pub enum Setting {
 }
 
 // Plan: whether there is one.
-#[derive(Drop)]
+#[derive(Clone, Copy)]
 pub enum Planning {
     Planned,
     Refused(u32),
@@ -54,7 +54,7 @@ pub enum Planning {
 
 // A plan: the first `count` of its moves, in the order of making, then the place and the slot of the final store. An enum holds no array,
 // so whether it was refused stands beside.
-#[derive(Drop)]
+#[derive(Clone, Copy)]
 pub struct Plan {
     pub told: Planning,
     pub moves: [MoveRecord; 4],

@@ -18,7 +18,7 @@ pub struct Entry {
 }
 
 // How the search ends. Where it finds room, `visits` counts the buckets that it visited.
-#[derive(Drop)]
+#[derive(Clone, Copy)]
 pub enum Ending {
     Damaged,
     Nowhere,

@@ -7,7 +7,7 @@ ghost use Rattle.model.specs.Calls.{vacant_place};
 ghost use Rattle.places.specs.Walks.{scanned, place_found, none_with, first_from, first_with};
 
 // The clock hand, by value.
-#[derive(Drop)]
+#[derive(Clone, Copy)]
 pub struct Hand {
     pub at: usize,
 }
