@@ -31,7 +31,7 @@ pub enum Reading {
 }
 
 // Find: the place of the animal.
-#[derive(Drop)]
+#[derive(Clone, Copy)]
 pub enum Finding {
     Absent,
     At(usize),
@@ -39,7 +39,7 @@ pub enum Finding {
 }
 
 // Set: the buckets visited and the moves made.
-#[derive(Drop)]
+#[derive(Clone, Copy)]
 pub enum Setting {
     Stored { visits: usize, moves: usize },
     Refused(u32),
@@ -64,35 +64,35 @@ pub struct Plan {
 }
 
 // A step: one whole move of a plan, or its final store.
-#[derive(Drop)]
+#[derive(Clone, Copy)]
 pub enum Stepping {
     Made,
     Refused(u32),
 }
 
 // Delete.
-#[derive(Drop)]
+#[derive(Clone, Copy)]
 pub enum Deleting {
     Deleted,
     Refused(u32),
 }
 
 // Evict: the victim's number and the places looked at. The hand comes back beside it.
-#[derive(Drop)]
+#[derive(Clone, Copy)]
 pub enum Evicting {
     Evicted { victim: u64, looked: usize },
     Refused(u32),
 }
 
 // The list: how many records were written.
-#[derive(Drop)]
+#[derive(Clone, Copy)]
 pub enum Listing {
     Listed(usize),
     Refused(u32),
 }
 
 // Fresh.
-#[derive(Drop)]
+#[derive(Clone, Copy)]
 pub enum Starting {
     Started,
     Refused(u32),

@@ -52,6 +52,10 @@ pub record AtVisit (n m : ℕ) (T : List ℕ) (b c : ℕ) (queue : List Entry) (
   pub early : v < 682
   pub bucket : x ≡ (get_or queue v no_entry).bucket
 
+pub at_visit : {n m : ℕ} {T : List ℕ} {b c : ℕ} {queue : List Entry} {v x : ℕ} → Visiting n m T b c queue v → v < 682
+    → x ≡ (get_or queue v no_entry).bucket → AtVisit n m T b c queue v x
+at_visit so_far early bucket = record { so_far = so_far; early = early; bucket = bucket }
+
 module _ {n m : ℕ} {T : List ℕ} {b c : ℕ} {queue : List Entry} {v x : ℕ} (a : AtVisit n m T b c queue v x) where
   abbrev S : Layout
   S = layout_of four n

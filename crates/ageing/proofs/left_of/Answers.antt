@@ -10,4 +10,4 @@ pub returns-then-age-limit : goal.returns-then-age-limit
 returns-then-age-limit c = let a = c.args in left_near a.limit a.age c.requires (omega (arith, c.if-age-limit.true))
 
 pub returns : goal.returns
-returns-then-age-limit c = search left_far
+returns c = search left_far

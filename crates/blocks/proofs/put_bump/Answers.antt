@@ -10,4 +10,4 @@ pub returns-then-counters-c : goal.returns-then-counters-c
 returns-then-counters-c c = put_one c.if-left-eq0.false (simp (set_out, c.if-counters-c.true))
 
 pub returns : goal.returns
-returns-then-left-eq0 c = put_one c.if-left-eq0.false (simp c.wrapping-add-u32.ensures)
+returns c = put_one c.if-left-eq0.false (simp c.wrapping_add_u32.ensures.value)

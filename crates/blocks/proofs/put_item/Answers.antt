@@ -11,4 +11,4 @@ pub returns-then-items-i : goal.returns-then-items-i
 returns-then-items-i c = put_one c.if-left-eq0.false (simp (set_out, c.if-items-i.true))
 
 pub returns : goal.returns
-returns-then-left-eq0 c = put_one c.if-left-eq0.false refl
+returns c = put_one c.if-left-eq0.false refl

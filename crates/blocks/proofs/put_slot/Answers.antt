@@ -11,4 +11,4 @@ pub returns-then-slots-i : goal.returns-then-slots-i
 returns-then-slots-i c = put_one c.if-left-eq0.false (simp (set_out, c.if-slots-i.true))
 
 pub returns : goal.returns
-returns-then-left-eq0 c = put_one c.if-left-eq0.false refl
+returns c = put_one c.if-left-eq0.false refl

@@ -10,4 +10,4 @@ pub returns-then-s-gt8192 : goal.returns-then-s-gt8192
 returns-then-s-gt8192 c = long_length c.args.s (search rules)
 
 pub returns : goal.returns
-returns-then-s-lt8 c = middle_length c.args.s (search rules) (search rules)
+returns c = middle_length c.args.s (search rules) (search rules)

@@ -9,4 +9,4 @@ returns-then-x-eq0 c = rw (eq-eqb _ _ c.if-x-eq0.true)
 
 pub returns : goal.returns
 unfolding odd_up
-returns-then-x-eq0 c = rw (ne_eqb _ _ c.if-x-eq0.false)
+returns c = rw (ne_eqb _ _ c.if-x-eq0.false)

@@ -4,4 +4,4 @@ use Rattle.hashing.proofs.other_of.Goals as goal
 
 pub returns : goal.returns
 unfolding other_bucket
-returns c = rw c.spread-of.ensures
+returns c = rw c.spread_of.ensures

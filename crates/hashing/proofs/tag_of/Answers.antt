@@ -10,4 +10,4 @@ returns-then-t-eq0 c = (rw (eq-eqb _ _ c.if-t-eq0.true), omega arith)
 
 pub returns : goal.returns
 unfolding tag_from
-returns-then-t-eq0 c = (rw (ne_eqb _ _ c.if-t-eq0.false), omega arith)
+returns c = (rw (ne_eqb _ _ c.if-t-eq0.false), omega arith)

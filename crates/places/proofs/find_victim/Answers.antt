@@ -13,4 +13,4 @@ pub loop-looked-preserved : goal.loop-looked-preserved
 loop-looked-preserved c = by_passed c.loop-looked.invariant (omega arith) (search) (search)
 
 pub returns : goal.returns
-returns-then-animal-recent c = by_nobody c.loop-looked.invariant (omega arith)
+returns c = by_nobody c.loop-looked.invariant (omega arith)

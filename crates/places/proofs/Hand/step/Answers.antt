@@ -10,4 +10,4 @@ pub returns-then-next-m : goal.returns-then-next-m
 returns-then-next-m c = hand_on _ _ c.if-next-m.true
 
 pub returns : goal.returns
-returns-then-m-at c = hand_back _ _ c.if-next-m.false
+returns c = hand_back _ _ c.if-next-m.false

@@ -1,0 +1,12 @@
+-- `evicting::carry_out` meets its contract. Assumes nothing.
+use Rattle.evicting.proofs.Turning.{turn_ready, turn_refused, turn_taken}
+use Rattle.evicting.proofs.carry_out.Goals as goal
+
+pub take_away-requires : goal.take_away-requires
+take_away-requires c = search turn_ready
+
+pub returns-in-Refused : goal.returns-in-Refused
+returns-in-Refused c = search turn_refused
+
+pub returns-in-Takes : goal.returns-in-Takes
+returns-in-Takes c = search turn_taken

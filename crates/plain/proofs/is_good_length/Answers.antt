@@ -1,0 +1,8 @@
+-- `plain::is_good_length` meets its contract. Assumes nothing.
+use mathlib.Core.Path.{refl}
+use Rattle.model.specs.Shape.{good_items}
+use Rattle.plain.proofs.is_good_length.Goals as goal
+
+pub returns : goal.returns
+unfolding good_items
+returns c = refl

@@ -1,0 +1,24 @@
+-- `plain::read` meets its contract. Assumes nothing.
+use Rattle.plain.proofs.Reading.{few_places, whole_places, words_there, timely, says_one, says_two, says_three, says_judged, says_absent}
+use Rattle.plain.proofs.read.Goals as goal
+
+pub returns-then-not-is_good_length : goal.returns-then-not-is_good_length
+returns-then-not-is_good_length c = search says_one
+
+pub returns-then-animal-eq0 : goal.returns-then-animal-eq0
+returns-then-animal-eq0 c = search says_two
+
+pub returns-then-is_bad_time : goal.returns-then-is_bad_time
+returns-then-is_bad_time c = search says_three
+
+pub place_of-found-requires : goal.place_of-found-requires
+place_of-found-requires c = (search few_places, search whole_places)
+
+pub judged_at-requires : goal.judged_at-requires
+judged_at-requires c = record { p_in_bounds = search words_there; minute_value = search timely }
+
+pub returns-in-At : goal.returns-in-At
+returns-in-At c = search says_judged
+
+pub returns-in-Nowhere : goal.returns-in-Nowhere
+returns-in-Nowhere c = search says_absent
