@@ -1,7 +1,8 @@
 // Reads an input into memory that is lent for it.
 #![tactic(auto)]
 
-ghost use Rattle.std.specs.Prelude.{◌≡◌, ◌≤◌, length};
+ghost use Rattle.std.specs.Prelude.{◌≡◌, ◌≤◌, length, take};
+ghost use Rattle.std.specs.Io.KnownBytes.{Consumes};
 
 use std::io::Read;
 
@@ -12,9 +13,10 @@ pub fn large_buffer() -> [u8; 65536]
     [0; 65536]
 }
 
-// Reads until the memory is full, the input ends or a read fails, and gives how many bytes stand at its start.
+// Reads until the memory is full, the input ends or a read fails, and gives how many bytes stand at its start: the next ones of the input.
 pub fn fill<R: Read>(from: &mut R, text: &mut [u8]) -> usize
-    ensures { result ≤ length text.new }
+    ensures in_bounds { result ≤ length text.new }
+    ensures next_bytes { Consumes (R.remaining from.old) (R.remaining from.new) (take result text.new) }
 {
     let mut done = 0;
     while done < text.len() {

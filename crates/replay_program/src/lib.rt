@@ -270,12 +270,12 @@ fn digit(status: u8) -> u8
     b'0' + status
 }
 
-// Where descriptor 3 is not open, nobody asked for the digit.
+// Behind what descriptor 3 was given before. Where it is not open, nobody hears the digit.
 fn tell(rt: &HostRuntime, status: u8)
     requires { status ≤ 2 }
 {
     let told = [digit(status)];
-    if let Ok(mut file) = OpenOptions::new().write(true).open(rt, STATUS_PATH) {
+    if let Ok(mut file) = OpenOptions::new().append(true).open(rt, STATUS_PATH) {
         let _ = file.write_all(&told);
     }
 }
