@@ -66,14 +66,14 @@ pub fn refused_first(slots: &[u32], counters: &[u32], items: &[u64], animal: u64
 }
 
 // What set, delete, plan and the final store look up: a refusal, nothing, or the word of the hit.
-#[derive(Drop)]
+#[derive(Clone, Copy)]
 pub enum Look {
     Refused(u32),
     Absent,
     At(u32),
 }
 
-#[derive(Drop)]
+#[derive(Clone, Copy)]
 pub struct Looked {
     pub look: Look,
     pub homes: Homes,
@@ -114,7 +114,7 @@ pub fn look_up(slots: &[u32], counters: &[u32], items: &[u64], animal: u64) -> L
 }
 
 // A slot that was looked for.
-#[derive(Drop)]
+#[derive(Clone, Copy)]
 pub enum Slot {
     At(usize),
     Nowhere,

@@ -26,7 +26,7 @@ pub enum Ending {
 }
 
 // Where there is room: the first `count` records are the moves, the far end first, and `slot` is free after them.
-#[derive(Drop)]
+#[derive(Clone, Copy)]
 pub struct Found {
     pub ending: Ending,
     pub count: usize,

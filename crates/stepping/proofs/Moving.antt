@@ -51,10 +51,10 @@ module _ (s c : List ℕ) (shift m : ℕ) (v : MoveRecord) {w d : ℕ} (ew : w �
       → Does (move_at (shape_of W (mem s c t)) (mem s c t) v) k (mem s c t) (mem s c t) (refused 12)
   move_refused n W t q r = does_refuse (decided W t q r (not-true b n))
 
-  module _ (n : not b ≡ false) where
+  module _ (n : b ≡ true) where
     pub movable : MoveAsked s c shift → Movable (length s / 2 ^ shift) (length c) shift v.from
     movable a =
-        let f = ltb-true v.from (length s) (and_is (ltb v.from (length s)) _ (sym e ∙ not-false b n)).0 in
+        let f = ltb-true v.from (length s) (and_is (ltb v.from (length s)) _ (sym e ∙ n)).0 in
         record { size = a.size; some = a.some; few = a.few; narrow = a.narrow; inside = omega (arith, a.short) }
 
     pub move_done : {k l : ℕ} {s' c' : List ℕ}
@@ -63,7 +63,7 @@ module _ (s c : List ℕ) (shift m : ℕ) (v : MoveRecord) {w d : ℕ} (ew : w �
         → (W : Ways) (t : List ℕ) → W.ways ≡ 2 ^ shift → length t / 4 ≡ m
         → Does (move_at (shape_of W (mem s c t)) (mem s c t) v) k (mem s c t) (mem s' c' t) move_made
     move_done {k} {l} {s'} {c'} d W t q r =
-        does_one {l = l} move_made (move_block (shape_of W (mem s c t)) s (as_move v)) (decided W t q r (not-false b n))
+        does_one {l = l} move_made (move_block (shape_of W (mem s c t)) s (as_move v)) (decided W t q r n)
         (rw (← q) at (d W (length t / 4) t q))
 
 -- the call: what it lends to the do

@@ -11,13 +11,13 @@ use paths::{Ending, Found};
 use places::Place;
 
 // What a set of an absent animal is to do: refuse, or enter it into the vacant place behind the moves that were found.
-#[derive(Drop)]
+#[derive(Clone, Copy)]
 pub enum Entering {
     Refused(u32),
     Enters { visits: usize },
 }
 
-#[derive(Drop)]
+#[derive(Clone, Copy)]
 pub struct Room {
     pub told: Entering,
     pub place: u32,

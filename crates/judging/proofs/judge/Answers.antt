@@ -11,7 +11,7 @@ returns-in-At c = search by_one
 
 pub overflow_cast-items : goal.overflow_cast-items
 overflow_cast-items c =
-    let right = right_now (mem c.args.slots.now c.args.counters.now c.args.items.now) c.misshapen_run-shape.ensures ? in
+    let right = right_now (mem c.args.slots.now c.args.counters.now c.args.items.now) c.misshapen_run-shape.ensures c.in_default.is in
     record { fits = omega (arith, (fit four (mem c.args.slots.now c.args.counters.now c.args.items.now) right).few) }
 
 pub returns-in-At-damage : goal.returns-in-At-damage
@@ -28,15 +28,15 @@ returns-in-At-stray c = search by_four
 
 pub unsought_place-lone-requires : goal.unsought_place-lone-requires
 unsought_place-lone-requires c =
-    aimed_now _ c.misshapen_run-shape.ensures c.enum_told-1.given.1 c.stray_slot-stray.ensures c.enum_told-in_default-stray-1.given.1
+    aimed_now _ c.misshapen_run-shape.ensures c.in_default.is c.stray_slot-stray.ensures c.in_default-stray.is
 
 pub returns-in-At-lone : goal.returns-in-At-lone
 returns-in-At-lone c = search by_five
 
 pub doubled_place-twin-requires : goal.doubled_place-twin-requires
 doubled_place-twin-requires c =
-    sought_now _ c.misshapen_run-shape.ensures c.enum_told-1.given.1 c.stray_slot-stray.ensures
-    c.enum_told-in_default-stray-1.given.1 c.unsought_place-lone.ensures c.enum_told-in_default-lone-1.given.1
+    sought_now _ c.misshapen_run-shape.ensures c.in_default.is c.stray_slot-stray.ensures
+    c.in_default-stray.is c.unsought_place-lone.ensures c.in_default-lone.is
 
 pub returns-in-At-twin : goal.returns-in-At-twin
 returns-in-At-twin c = search by_six

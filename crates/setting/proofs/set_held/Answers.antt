@@ -1,0 +1,9 @@
+-- `setting::set_held` meets its contract. Assumes nothing.
+use Rattle.setting.proofs.Enters.{held_late, held_timely}
+use Rattle.setting.proofs.set_held.Goals as goal
+
+pub returns-then-is_late : goal.returns-then-is_late
+returns-then-is_late c = search held_late
+
+pub returns : goal.returns
+returns c = search held_timely
