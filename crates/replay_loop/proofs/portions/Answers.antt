@@ -1,4 +1,4 @@
-use Rattle.std.proofs.Common.{rules, refl, ◌∙◌}
+use Rattle.std.proofs.Common.{rules, refl}
 use Rattle.replay_loop.proofs.Handed.{handed_first, handed_more, handed_all}
 use Rattle.replay_loop.proofs.portions.Goals as goal
 
