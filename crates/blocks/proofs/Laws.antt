@@ -1,7 +1,6 @@
 -- Laws of stores under a budget: none, one, and runs one after the other. Assumes nothing.
 use Rattle.std.proofs.Common.{◌≡◌, ℕ, zero, suc, ◌+◌, ◌-◌, ◌*◌, ◌%◌, ◌^◌, ◌≢◌, List, [], ◌∷◌, ◌++◌, length, get_or, take, set, refl, ◌∙◌, arith, length-append}
 use native.Mathlib.Nat.{sub-zero, suc-sub-suc, zero-sub}
-use denote.Struct.Rest.{rest}
 use Rattle.model.specs.Memory.{Mem, mem}
 use Rattle.model.specs.Stores.{Store, apply, apply_all, bump, enter, item_to, move, remove, slot_to, stores_of, update}
 use Rattle.blocks.specs.Made.{Made, Put, put}

@@ -24,7 +24,6 @@ use Rattle.clothes.specs.declared.BoughladderEvicting.{BoughladderEvicting}
 use Rattle.clothes.specs.declared.BoughladderListing.{BoughladderListing}
 use Rattle.model.specs.declared.Listing.{Listing}
 use Rattle.evicting.specs.declared.Turned.{Turned}
-use Rattle.model.specs.declared.Planning.TheVariants as planning
 use Rattle.model.specs.declared.Reading.{Reading}
 use Rattle.model.specs.declared.Finding.{Finding}
 use Rattle.clothes.specs.declared.BoughladderReading.{BoughladderReading}

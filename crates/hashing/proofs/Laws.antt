@@ -5,12 +5,8 @@ use native.Mathlib.Omega.{arith}
 use mathlib.Core.Path.{subst⁻¹, ◌≡◌, ap, ◌∙◌}
 use lib.Arith.{digits_mod, mod-mul}
 use lib.Pow.{pow_pos, pow-add}
-use Rattle.model.specs.Choice.{first}
-use Rattle.model.specs.Memory.{tag}
 use Rattle.model.specs.Hash.{Size, hash, other_bucket, tag_from}
-use Rattle.model.specs.AnyTable.{counter}
 use Rattle.model.proofs.Hash.{size_most, size_pos}
-use Rattle.model.proofs.ListLaws.{first_is}
 use Rattle.hashing.specs.Homes.{HomesAre}
 
 -- the product of two numbers of k bits has at most k + k

@@ -14,7 +14,7 @@ use lib.Seq.{get_or-set_same, get_or-set_other}
 use lib.Dec.{leb}
 use borrow.Author.Tests.{lt-ltb, le-ltb, eq-eqb, ne_eqb, le-leb, lt-leb}
 use Rattle.model.specs.Choice.{choose}
-use Rattle.model.specs.Memory.{animal, is_recent, live, place, recent}
+use Rattle.model.specs.Memory.{animal, is_recent, live, recent}
 use Rattle.model.specs.Clock.{Victim, clears, next_hand, passed_recent, prepend, seek_victim, takes, victim}
 use Rattle.model.specs.Row.{Turn, row_clock}
 use Rattle.model.specs.WellFormed.{Live}

@@ -18,7 +18,6 @@ use Rattle.model.specs.Row.{fill, renew}
 use Rattle.model.specs.WellFormed.{Live, Points, Right, Sole, WellFormed}
 use Rattle.model.proofs.ShapeLaws.{Lawful}
 use Rattle.model.proofs.ListLaws.{inside_held, at_set}
-use Rattle.model.proofs.PathMoves.{distinct}
 use Rattle.model.proofs.MovedWords.{across, at_else, at_to, origin}
 use Rattle.model.specs.Choice.{choose}
 use lib.Dec.{eqb}

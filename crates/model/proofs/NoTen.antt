@@ -9,7 +9,7 @@ use mathlib.Core.List.{List}
 use lib.Dec.{leb}
 use borrow.Author.Tests.{leb-false}
 use Rattle.model.specs.Choice.{choose, range, there}
-use Rattle.model.specs.Memory.{Mem, animal, is_recent, live, place}
+use Rattle.model.specs.Memory.{Mem, animal, is_recent, live}
 use Rattle.model.specs.Shape.{Shape, right_lengths, shape_of, Ways}
 use Rattle.model.specs.Answers.{evicted, refused}
 use Rattle.model.specs.Clock.{Victim, next_hand, seek_victim, takes, victim}

@@ -4,7 +4,6 @@ use mathlib.Core.Path.{◌≡◌}
 use mathlib.Core.Logic.{◌≢◌}
 use mathlib.Core.List.{List, [], ◌∷◌, ◌++◌, Memᴰ as Mem}
 use lib.ListN.{length, get_or}
-use Rattle.model.specs.Choice.{first}
 use Rattle.model.specs.Shape.{Layout}
 use Rattle.model.specs.Moves.{Free, Move, Run, moved, moved_by, word_in}
 use Rattle.model.specs.Visits.{hop, lands, next_level, visits}

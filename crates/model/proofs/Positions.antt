@@ -13,7 +13,6 @@ use lib.ListN.{length, get_or, length-append, get_or-append}
 use lib.Seq.{get_or-append-add}
 use lib.Arith.{digits_div, digits_lt}
 use borrow.Author.Tests.{lt-ltb, le-ltb}
-use Rattle.model.specs.Choice.{first}
 use Rattle.model.specs.Shape.{Layout}
 use Rattle.model.specs.Moves.{Free, Move, word_in}
 use Rattle.model.specs.Visits.{climb, hop, hops, lands, next_level, sum_of_powers, visits}

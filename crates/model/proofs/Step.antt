@@ -1,6 +1,6 @@
 -- One call on a well-formed table: its blocks have their conditions, its answer and its item words are the row's. Read, serve, find,
 -- delete and the list. Assumes nothing.
-use Prim.Native.Nat.{ℕ, ◌*◌, ◌-◌}
+use Prim.Native.Nat.{ℕ, ◌*◌}
 use mathlib.Core.Path.{◌≡◌, refl, sym, ap, ◌∙◌, subst, ap₂}
 use mathlib.Core.Logic.{◌≢◌}
 use mathlib.Core.Bool.{Bool, true, false}

@@ -3,11 +3,11 @@ use Prim.Native.Nat.{ℕ, ◌/◌, ◌^◌, ◌<◌}
 use native.Mathlib.Omega.{arith}
 use mathlib.Core.Path.{◌≡◌, refl, sym, ap, ◌∙◌}
 use mathlib.Core.Logic.{◌≢◌}
-use mathlib.Core.Bool.{Bool, true, false, not}
+use mathlib.Core.Bool.{Bool, true, not}
 use mathlib.Core.List.{List, [], ◌∷◌}
 use lib.ListN.{length, get_or}
 use lib.Dec.{ltb}
-use borrow.Author.Tests.{ltb-true, not-false, not-true}
+use borrow.Author.Tests.{ltb-true, not-true}
 use Rattle.model.specs.Choice.{choose}
 use Rattle.model.specs.Memory.{Mem, mem}
 use Rattle.model.specs.Shape.{Ways, four, right_lengths, shape, shape_of}

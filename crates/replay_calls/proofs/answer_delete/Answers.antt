@@ -1,0 +1,6 @@
+-- `replay_calls::answer_delete` meets its contract. Assumes nothing.
+use Rattle.replay_calls.proofs.Tell.{whole_as}
+use Rattle.replay_calls.proofs.answer_delete.Goals as goal
+
+pub returns : goal.returns
+returns c = search whole_as
