@@ -6,7 +6,7 @@ fn space() -> [u8; 1048576] {
     [0; 1048576]
 }
 
-fn main() {
+fn main(rt: HostRuntime) {
     let mut text = space();
-    judge_program::run(&mut text);
+    judge_program::run(&rt, &mut text);
 }

@@ -11,9 +11,9 @@ ghost use Rattle.judge_program.specs.Standing.{Judged, Stands, Taken, Told};
 ghost use Rattle.judge_program.specs.declared.Dumped.TheVariants as dumped;
 
 use judgement::{Breach, Judgement};
-use libc::{STDERR_FILENO, STDIN_FILENO, STDOUT_FILENO};
 use replay_loads::Measured;
 use replay_words::{Piece, Word};
+use std::io::Read;
 
 // The lengths of the slots, the counters and the items; or the first line that is not understood, and why.
 #[derive(Drop)]
@@ -170,19 +170,26 @@ pub fn judge_text(
     put_told(dumped, slots, counters, items, out)
 }
 
-// The line goes out.
-fn hand_over(line: &[u8], text: &[u8])
+// The line goes out. That it can't be written is not told.
+fn hand_over<R: Print>(rt: &R, line: &[u8], text: &[u8])
     requires { line.now ≡ told (dump_of text.now) }
 {
-    io::write_all(STDOUT_FILENO, line);
+    let _ = rt.write_all(line);
 }
 
 // Judges a text, with the memory that is lent for its runs.
-fn tell_in(text: &[u8], slots: &mut [u32], counters: &mut [u32], items: &mut [u64], out: &mut [u8])
+fn tell_in<R: Print>(
+    rt: &R,
+    text: &[u8],
+    slots: &mut [u32],
+    counters: &mut [u32],
+    items: &mut [u64],
+    out: &mut [u8],
+)
     requires { (length slots.old ≡ 8192) × (length counters.old ≡ 1024) × (length items.old ≡ 16384) × (384 ≤ length out.old) }
 {
     let end = judge_text(text, slots, counters, items, out);
-    hand_over(&out[..end], text);
+    hand_over(rt, &out[..end], text);
 }
 
 // As many item words as a table may have. It says nothing of its elements, so that no proof counts them.
@@ -192,32 +199,32 @@ fn item_words() -> [u64; 16384]
     [0; 16384]
 }
 
-fn tell(text: &[u8]) {
+fn tell<R: Print>(rt: &R, text: &[u8]) {
     let mut slots = [0u32; 8192];
     let mut counters = [0u32; 1024];
     let mut items = item_words();
     let mut out = [0u8; 384];
-    tell_in(text, &mut slots, &mut counters, &mut items, &mut out);
+    tell_in(rt, text, &mut slots, &mut counters, &mut items, &mut out);
 }
 
 // Judges the standard input, with the memory that it is lent for it, and gives 0; or 1: nothing is judged of more, or of what can't be read to its end.
-pub fn run(text: &mut [u8]) -> u8
+pub fn run(rt: &HostRuntime, text: &mut [u8]) -> u8
     ensures { result ≤ 1 }
 {
-    let n = io::read_full(STDIN_FILENO, text);
+    let mut from = rt.stdin();
+    let n = input::fill(&mut from, text);
     let mut more = [0u8; 1];
-    let got = libc::read(STDIN_FILENO, &mut more);
-    if got == 0 {
-        tell(&text[..n]);
+    let got = from.read(&mut more);
+    if let Ok(0) = got {
+        tell(rt, &text[..n]);
         return 0;
     }
-    if (got < 0) | (n < text.len()) {
-        io::write_all(
-            STDERR_FILENO,
-            b"judge_dump: a read failed, nothing was judged\n",
-        );
+    if got.is_err() || n < text.len() {
+        let _ = rt
+            .stderr()
+            .write_all(b"judge_dump: a read failed, nothing was judged\n");
         return 1;
     }
-    io::write_all(STDOUT_FILENO, b"too long\n");
+    let _ = rt.write_all(b"too long\n");
     1
 }

@@ -6,7 +6,7 @@ fn space() -> [u8; 2097152] {
     [0; 2097152]
 }
 
-fn main() {
+fn main(rt: HostRuntime) {
     let mut text = space();
-    replay_program::run(&mut text);
+    replay_program::run(&rt, &mut text);
 }

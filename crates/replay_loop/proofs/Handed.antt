@@ -13,6 +13,7 @@ use Rattle.replay_rows.specs.Replayed.{answers, missed, missed_in, replayed}
 use Rattle.replay_steps.specs.Standing.{in_use, Held}
 use Rattle.replay_steps.specs.declared.State.{State}
 use Rattle.replay_loop.specs.Going.{coming, to_miss, Ended, Next, Went}
+use Rattle.replay_loop.specs.declared.Replayed.{Replayed}
 
 pub record Handed (e : Bool) (calls slots counters items records out : List ℕ) (st : State) (written : ℕ) : Type 0 where
   pub gone : List ℕ
@@ -109,22 +110,20 @@ module _ {e : Bool} {calls slots counters items records out slots' counters' ite
       }
 
 -- the text is at its end: all has gone out
-pub handed_all : {e : Bool} {calls slots counters items records out : List ℕ} {st : State} {written : ℕ} → Handed e calls slots counters items records out st written
-    → length calls ≤ st.from → Ended e calls (record { whole = true; bytes = written; missed = st.missed })
+pub handed_all : {e : Bool} {calls slots counters items records out : List ℕ} {st : State} {written : ℕ} {r : Replayed}
+    → Handed e calls slots counters items records out st written → length calls ≤ st.from → r.bytes ≡ written → r.missed ≡ st.missed → Ended e calls r
 unfolding replayed missed_in lines
-handed_all {e} {calls} {slots} {counters} {items} {records} {out} {st} h l =
+handed_all {e} {calls} {slots} {counters} {items} {records} {out} {st} h l b m =
     let none : coming e calls slots counters items st ≡ [] =
     ap (λ (l : List ℕ). replayed e st.number (in_use slots counters items st) (lines l)) (drop_of_length-le calls l) in
     let no_more : to_miss calls st ≡ 0 = ap (λ (l : List ℕ). missed_in (lines l)) (drop_of_length-le calls l) in
     record {
-      all = λ _. h.count ∙ ap length (sym (append-nil h.gone) ∙ ap (λ (l : List ℕ). h.gone ++ l) (sym none) ∙ h.ahead);
-      counted = λ _. omega (arith, h.to_come, no_more);
+      all = λ _. b ∙ h.count ∙ ap length (sym (append-nil h.gone) ∙ ap (λ (l : List ℕ). h.gone ++ l) (sym none) ∙ h.ahead);
+      counted = λ _. omega (arith, m, h.to_come, no_more);
     }
 
 -- a portion could not be written
-pub handed_in_part : (e : Bool) (calls : List ℕ) {bytes missed : ℕ} → Ended e calls (record { whole = false; bytes = bytes; missed = missed })
-handed_in_part e calls =
-    record {
-      all = λ q. let z : ◌≡◌ {A = ℕ} 0 1 = ap (λ (b : Bool). choose b 1 0) q in absurd (omega arith);
-      counted = λ q. let z : ◌≡◌ {A = ℕ} 0 1 = ap (λ (b : Bool). choose b 1 0) q in absurd (omega arith);
-    }
+pub handed_in_part : {e : Bool} {calls : List ℕ} {r : Replayed} → r.whole ≡ false → Ended e calls r
+handed_in_part {e} {calls} {r} f =
+    let never : r.whole ≡ true → ◌≡◌ {A = ℕ} 0 1 = λ q. ap (λ (b : Bool). choose b 1 0) (sym f ∙ q) in
+    record { all = λ q. absurd (omega (arith, never q)); counted = λ q. absurd (omega (arith, never q)) }

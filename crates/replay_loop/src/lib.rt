@@ -7,9 +7,9 @@ ghost use Rattle.replay_rows.specs.Replayed.{language};
 ghost use Rattle.replay_steps.specs.Standing.{Held};
 ghost use Rattle.replay_loop.specs.Going.{Ended, Next, Went};
 
-use libc::STDOUT_FILENO;
 use replay_steps::State;
 use replay_words::Piece;
+use std::io;
 
 // The next line of the text.
 fn next_line(
@@ -76,34 +76,39 @@ fn portion(
     state
 }
 
-// Whether a portion could be written, and how many bytes of the answers have then gone out.
+// Whether a portion could be written, how many bytes of the answers have then gone out, and what the system said if not.
 #[derive(Drop)]
 struct Sent {
     whole: bool,
     bytes: u64,
+    failure: Option<io::Error>,
 }
 
 // The next bytes of the answers go out.
-fn hand_over(portion: &[u8], calls: &[u8], echo: bool, written: u64) -> Sent
+fn hand_over<R: Print>(rt: &R, portion: &[u8], calls: &[u8], echo: bool, written: u64) -> Sent
     requires { Next echo calls.now written portion.now }
     ensures { result.bytes ≡ written + length portion.now }
 {
+    let gone = rt.write_all(portion);
     Sent {
-        whole: io::write_all(STDOUT_FILENO, portion),
+        whole: gone.is_ok(),
         bytes: written + portion.len() as u64,
+        failure: gone.err(),
     }
 }
 
-// What came of a replay: whether all answers could be written, how many bytes of them went out, and how many lines were not understood.
+// What came of a replay: whether all answers could be written, how many bytes of them went out, how many lines were not understood, and what the system said of a write that failed.
 #[derive(Drop)]
 pub struct Replayed {
     pub whole: bool,
     pub bytes: u64,
     pub missed: u64,
+    pub failure: Option<io::Error>,
 }
 
 // All portions of a text's answers. A text may begin with a byte order mark.
-fn portions(
+fn portions<R: Print>(
+    rt: &R,
     rows: &[u8],
     calls: &[u8],
     echo: bool,
@@ -133,12 +138,13 @@ fn portions(
             rows, calls, echo, slots, counters, items, records, out, state,
         );
         let end = full.at;
-        let sent = hand_over(&out[..end], calls, echo, written);
+        let sent = hand_over(rt, &out[..end], calls, echo, written);
         if !sent.whole {
             return Replayed {
                 whole: false,
                 bytes: written,
                 missed: full.missed,
+                failure: sent.failure,
             };
         }
         written = sent.bytes;
@@ -157,6 +163,7 @@ fn portions(
         whole: true,
         bytes: written,
         missed: state.missed,
+        failure: None,
     }
 }
 
@@ -175,7 +182,7 @@ fn portion_bytes() -> [u8; 299008]
 }
 
 // Replays a text on a table of the program's own, with the calls shown before their answers or not. The rows are those of the language, in its order.
-pub fn replay(calls: &[u8], echo: bool) -> Replayed
+pub fn replay<R: Print>(rt: &R, calls: &[u8], echo: bool) -> Replayed
     requires { length calls.now ≤ 2097152 }
     ensures { Ended echo calls.now result }
 {
@@ -185,6 +192,7 @@ pub fn replay(calls: &[u8], echo: bool) -> Replayed
     let mut records = record_bytes();
     let mut out = portion_bytes();
     portions(
+        rt,
         b"serve N N N\nread N N N\nset N P N N\ndelete N\nevict\ncut N set N P N N\ncut N delete N\ncut N evict\nhand N\nlist B\npoke slots N N\npoke counters N N\npoke items N N\ndump\nfresh N N N\nplain N N N\njudge\nplan N P N N\nmove N N N N P N N\nenter N N N P N N\n\n",
         calls,
         echo,

@@ -9,7 +9,7 @@ ghost use Rattle.replay_steps.specs.Standing.{in_use, Held, Stepped, Refused};
 use model::Starting;
 
 // Where the replay stands: the lengths of the three runs in use and the hand; the lines that are behind it and how many of them were not understood, the position in the text, and in the buffer.
-#[derive(Drop)]
+#[derive(Clone, Copy)]
 pub struct State {
     pub slots: usize,
     pub counters: usize,

@@ -1,10 +1,8 @@
 // samples/auditor.calls, replayed in the gate: its answers stand in the file stdout.
 #![tactic(auto)]
 
-use libc::STDIN_FILENO;
-
-fn main() {
-    let mut text = io::large_buffer();
-    let n = io::read_full(STDIN_FILENO, &mut text);
-    replay_loop::replay(&text[..n], false);
+fn main(rt: HostRuntime) {
+    let mut text = input::large_buffer();
+    let n = input::fill(&mut rt.stdin(), &mut text);
+    replay_loop::replay(&rt, &text[..n], false);
 }

@@ -4,49 +4,48 @@
 
 ghost use Rattle.std.specs.Prelude.{◌+◌, ◌≤◌, length};
 
-use libc::STDOUT_FILENO;
 use model::{Grant, MoveRecord, Plan, Setting, Stepping};
 
 // The first n bytes of a line.
-fn say_first(line: &[u8], n: usize)
+fn say_first(rt: &HostRuntime, line: &[u8], n: usize)
     requires { n ≤ length line.now }
 {
-    io::write_all(STDOUT_FILENO, &line[..n]);
+    let _ = rt.write_all(&line[..n]);
 }
 
-fn say_plan(plan: Plan) {
+fn say_plan(rt: &HostRuntime, plan: Plan) {
     let mut line = [0u8; 384];
     if plan.count <= 4 {
         let n = replay_answers::put_plan(&mut line, 0, plan);
-        say_first(&line, n);
+        say_first(rt, &line, n);
     }
 }
 
-fn say_moved(said: Stepping) {
+fn say_moved(rt: &HostRuntime, said: Stepping) {
     let mut line = [0u8; 384];
     let n = replay_answers::put_moved(&mut line, 0, said);
-    say_first(&line, n);
+    say_first(rt, &line, n);
 }
 
-fn say_entered(said: Stepping) {
+fn say_entered(rt: &HostRuntime, said: Stepping) {
     let mut line = [0u8; 384];
     let n = replay_answers::put_entered(&mut line, 0, said);
-    say_first(&line, n);
+    say_first(rt, &line, n);
 }
 
-fn say_setting(said: Setting) {
+fn say_setting(rt: &HostRuntime, said: Setting) {
     let mut line = [0u8; 384];
     let n = replay_answers::put_setting(&mut line, 0, said);
-    say_first(&line, n);
+    say_first(rt, &line, n);
 }
 
 // Every word of a table of no more than the herd's.
-fn say_dump(slots: &[u32], counters: &[u32], items: &[u64])
+fn say_dump(rt: &HostRuntime, slots: &[u32], counters: &[u32], items: &[u64])
     requires { length slots.now + length counters.now + length items.now ≤ 76 }
 {
     let mut lines = [0u8; 1980];
     let n = replay_answers::put_dump(&mut lines, 0, slots, counters, items);
-    say_first(&lines, n);
+    say_first(rt, &lines, n);
 }
 
 // A permission of minute 100.
@@ -90,42 +89,58 @@ fn herd(slots: &mut [u32], counters: &mut [u32], items: &mut [u64]) {
 
 // The plan's two moves, and then what is no move of it: an empty record, and a number behind the four.
 fn moves_of(
+    rt: &HostRuntime,
     slots: &mut [u32],
     counters: &mut [u32],
     items: &[u64],
     g: Grant,
     plan: [MoveRecord; 4],
 ) {
-    say_moved(stepping::step_planned(slots, counters, items, g, plan, 0));
-    say_moved(stepping::step_planned(slots, counters, items, g, plan, 1));
-    say_moved(stepping::step_planned(slots, counters, items, g, plan, 2));
-    say_moved(stepping::step_planned(slots, counters, items, g, plan, 4));
+    say_moved(
+        rt,
+        stepping::step_planned(slots, counters, items, g, plan, 0),
+    );
+    say_moved(
+        rt,
+        stepping::step_planned(slots, counters, items, g, plan, 1),
+    );
+    say_moved(
+        rt,
+        stepping::step_planned(slots, counters, items, g, plan, 2),
+    );
+    say_moved(
+        rt,
+        stepping::step_planned(slots, counters, items, g, plan, 4),
+    );
 }
 
 // A plan, its moves, its final store.
-fn in_steps(slots: &mut [u32], counters: &mut [u32], items: &mut [u64]) {
+fn in_steps(rt: &HostRuntime, slots: &mut [u32], counters: &mut [u32], items: &mut [u64]) {
     let g = granted(17, 2, 130);
     let plan = planning::plan(slots, counters, items, g);
-    say_plan(plan);
+    say_plan(rt, plan);
     let moves = plan.moves;
-    moves_of(slots, counters, items, g, moves);
-    say_entered(stepping::step_enter(slots, counters, items, g, plan.place, plan.slot));
+    moves_of(rt, slots, counters, items, g, moves);
+    say_entered(
+        rt,
+        stepping::step_enter(slots, counters, items, g, plan.place, plan.slot),
+    );
 }
 
 // A set.
-fn at_once(slots: &mut [u32], counters: &mut [u32], items: &mut [u64]) {
+fn at_once(rt: &HostRuntime, slots: &mut [u32], counters: &mut [u32], items: &mut [u64]) {
     let g = granted(17, 2, 130);
-    say_setting(setting::set(slots, counters, items, g));
+    say_setting(rt, setting::set(slots, counters, items, g));
 }
 
-fn main() {
+fn main(rt: HostRuntime) {
     let mut slots = [0u32; 16];
     let mut counters = [0u32; 4];
     let mut items = [0u64; 56];
     herd(&mut slots, &mut counters, &mut items);
-    in_steps(&mut slots, &mut counters, &mut items);
-    say_dump(&slots, &counters, &items);
+    in_steps(&rt, &mut slots, &mut counters, &mut items);
+    say_dump(&rt, &slots, &counters, &items);
     herd(&mut slots, &mut counters, &mut items);
-    at_once(&mut slots, &mut counters, &mut items);
-    say_dump(&slots, &counters, &items);
+    at_once(&rt, &mut slots, &mut counters, &mut items);
+    say_dump(&rt, &slots, &counters, &items);
 }

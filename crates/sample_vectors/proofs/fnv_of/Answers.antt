@@ -1,14 +1,12 @@
--- `sample_vectors::fnv_of` meets its contract: the bytes still to come, hashed from here, give the whole text's hash. Assumes nothing.
-use Prim.Native.Nat.{ℕ, ◌+◌, ◌-◌, ◌≤◌, ◌<◌}
+use Rattle.std.proofs.Common.{rules}
+use Prim.Native.Nat.{ℕ, ◌+◌, ◌≤◌, ◌<◌}
 use native.Mathlib.Numerals.{add-one}
 use mathlib.Core.Path.{◌≡◌, sym, ap, ◌∙◌}
 use mathlib.Core.List.{List}
 use lib.ListN.{length, get_or, drop, drop_of_length-le}
 use lib.Seq.{drop-cons}
 use Rattle.model.specs.Hash.{fnv, fnv_step}
-use borrow.Author.Rules.{rules}
-use Rattle.sample_vectors.proofs.fnv_of.Statement.{statement}
-use Rattle.sample_vectors.proofs.fnv_of.Tie as tie
+use Rattle.sample_vectors.proofs.fnv_of.Goals as goal
 
 -- one byte taken off the front
 one_byte : (text : List ℕ) (h i : ℕ) {g all : ℕ} → g ≡ fnv_step h (get_or text i 0) → i < length text → fnv h (drop i text) ≡ all
@@ -23,15 +21,8 @@ no_byte : (text : List ℕ) (h i : ℕ) {all : ℕ} → length text ≤ i → fn
 unfolding fnv
 no_byte text h i l inv = let none : fnv h (drop i text) ≡ h = rw (drop_of_length-le text l) in sym none ∙ inv
 
-abbrev invariant-loop : tie.invariant-loop
-invariant-loop text h₀ i₀ h i = (i ≤ length text) × (fnv h (drop i text) ≡ fnv 2166136261 text)
+pub loop-i-preserved : goal.loop-i-preserved
+loop-i-preserved c = (search rules, search one_byte)
 
-abbrev decreases-loop : tie.decreases-loop
-decreases-loop text h₀ i₀ h i = length text - i
-
-pub fnv-of-spec : {M : Type 1} → statement M
-fnv-of-spec =
-    tie.close
-    (tie.spec
-    invariant-loop decreases-loop (λ c. search rules) (λ c. search rules) (λ c κs. search rules) (λ c. search rules) (λ c. search rules)
-    (λ c. (search rules, search one_byte)) (λ c. search no_byte))
+pub returns : goal.returns
+returns c = search no_byte
