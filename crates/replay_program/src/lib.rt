@@ -6,11 +6,13 @@ ghost use Rattle.std.specs.Prelude.{◌≡◌, ◌≢◌, true, ◌+◌, ◌≤�
 ghost use Rattle.replay_rows.specs.Replayed.{missed, status as status_of};
 
 use std::env::{Env, FillError};
-use std::fs::{self, OpenOptions};
+use std::fs::{self, File, OpenOptions};
 use std::io::{self, Cursor, IsTerminal, Read, Write};
 
-// Descriptor 3, under its name.
+// Descriptor 3, under its name, and what the system tells of it.
 const STATUS_PATH: &str = "/dev/fd/3";
+
+const STATUS_INFO: &str = "/proc/self/fdinfo/3";
 
 // Nothing was replayed, or the output could not be written.
 const NOTHING: u8 = 1;
@@ -271,11 +273,56 @@ fn digit(status: u8) -> u8
 }
 
 // Behind what descriptor 3 was given before. Where it is not open, nobody hears the digit.
+// Whether a descriptor was opened for writing: the line `flags:` ends with an octal digit, whose last two bits are 0 for reading alone.
+fn is_writable(info: &[u8]) -> bool {
+    let mut at = 0;
+    'line: while at < info.len() {
+        if info[at..].starts_with(b"flags:") {
+            break 'line;
+        }
+        at += 1;
+    }
+    let mut last = b'0';
+    'end: while at < info.len() {
+        if info[at] == b'\n' {
+            break 'end;
+        }
+        last = info[at];
+        at += 1;
+    }
+    last % 4 != 0
+}
+
+// Nothing goes through a descriptor that was opened for reading alone: its name could open it for more.
+fn takes_status(rt: &HostRuntime) -> bool {
+    let mut info = [0u8; 256];
+    let Ok(mut from) = fs::open(rt, STATUS_INFO) else {
+        return false;
+    };
+    let n = input::fill(&mut from, &mut info);
+    is_writable(&info[..n])
+}
+
+// Opened for reading too, a pipe whose reader is gone does not wait for another.
+fn open_status(rt: &HostRuntime) -> io::Result<File> {
+    let both = OpenOptions::new()
+        .read(true)
+        .append(true)
+        .open(rt, STATUS_PATH);
+    if both.is_ok() {
+        return both;
+    }
+    OpenOptions::new().append(true).open(rt, STATUS_PATH)
+}
+
 fn tell(rt: &HostRuntime, status: u8)
     requires { status ≤ 2 }
 {
     let told = [digit(status)];
-    if let Ok(mut file) = OpenOptions::new().append(true).open(rt, STATUS_PATH) {
+    if !takes_status(rt) {
+        return;
+    }
+    if let Ok(mut file) = open_status(rt) {
         let _ = file.write_all(&told);
     }
 }
