@@ -212,7 +212,7 @@ pub fn run(rt: &HostRuntime, text: &mut [u8]) -> u8
     ensures { result ≤ 1 }
 {
     let mut from = rt.stdin();
-    let n = input::fill(&mut from, text);
+    let n = input::fill(&mut from, text).bytes;
     let mut more = [0u8; 1];
     let got = from.read(&mut more);
     if let Ok(0) = got {

@@ -78,7 +78,7 @@ fn replay_in<F: Read>(
     requires { length text.old ≤ 2097152 }
     ensures { result ≤ 2 }
 {
-    let n = input::fill(from, text);
+    let n = input::fill(from, text).bytes;
     let mut more = [0u8; 1];
     match from.read(&mut more) {
         Ok(0) => replay_text(rt, &text[..n], echo),
@@ -273,24 +273,12 @@ fn digit(status: u8) -> u8
 }
 
 // Behind what descriptor 3 was given before. Where it is not open, nobody hears the digit.
-// Whether a descriptor was opened for writing: the line `flags:` ends with an octal digit, whose last two bits are 0 for reading alone.
+// Whether a descriptor was opened for writing: the octal number behind `flags:` ends with the mode, 0 for reading alone.
 fn is_writable(info: &[u8]) -> bool {
-    let mut at = 0;
-    'line: while at < info.len() {
-        if info[at..].starts_with(b"flags:") {
-            break 'line;
-        }
-        at += 1;
-    }
-    let mut last = b'0';
-    'end: while at < info.len() {
-        if info[at] == b'\n' {
-            break 'end;
-        }
-        last = info[at];
-        at += 1;
-    }
-    last % 4 != 0
+    info.split(|&b| b == b'\n')
+        .filter_map(|line| line.strip_prefix(b"flags:"))
+        .filter_map(|flags| flags.last())
+        .any(|digit| *digit % 4 != 0)
 }
 
 // Nothing goes through a descriptor that was opened for reading alone: its name could open it for more.
@@ -299,7 +287,7 @@ fn takes_status(rt: &HostRuntime) -> bool {
     let Ok(mut from) = fs::open(rt, STATUS_INFO) else {
         return false;
     };
-    let n = input::fill(&mut from, &mut info);
+    let n = input::fill(&mut from, &mut info).bytes;
     is_writable(&info[..n])
 }
 

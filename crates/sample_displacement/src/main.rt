@@ -3,6 +3,6 @@
 
 fn main(rt: HostRuntime) {
     let mut text = input::large_buffer();
-    let n = input::fill(&mut rt.stdin(), &mut text);
+    let n = input::fill(&mut rt.stdin(), &mut text).bytes;
     replay_loop::replay(&rt, &text[..n], false);
 }
