@@ -5,6 +5,5 @@ use Rattle.looking.proofs.slot_among.Goals as goal
 
 pub returns : goal.returns
 returns c =
-    let s = c in
-    four_slots s.args.slots.now s.args.w (s.args.b * 4) s.args.other c.slot_if-last.ensures c.slot_if-third.ensures
+    four_slots c.args.slots.now c.args.w (c.args.b * 4) c.args.other c.slot_if-last.ensures c.slot_if-third.ensures
     c.slot_if-second.ensures c.slot_if.ensures

@@ -5,12 +5,10 @@ use Rattle.looking.proofs.slot_of.Goals as goal
 
 pub returns-then-nowhere-slot : goal.returns-then-nowhere-slot
 returns-then-nowhere-slot c =
-    let s = c in
-    slot_nowhere s.args.slots.now s.args.w (length s.args.slots.now) s.args.near s.args.far s.requires
+    slot_nowhere c.args.slots.now c.args.w (length c.args.slots.now) c.args.near c.args.far c.requires
     c.slot_among-there.ensures c.slot_among-slot.ensures c.if-nowhere-slot.true
 
 pub returns : goal.returns
 returns c =
-    let s = c in
-    slot_somewhere s.args.slots.now s.args.w (length s.args.slots.now) s.args.near s.args.far s.requires
+    slot_somewhere c.args.slots.now c.args.w (length c.args.slots.now) c.args.near c.args.far c.requires
     c.slot_among-there.ensures c.slot_among-slot.ensures c.if-nowhere-slot.false

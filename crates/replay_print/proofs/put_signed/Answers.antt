@@ -7,7 +7,7 @@ pub returns-then-z-lt0 : goal.returns-then-z-lt0
 returns-then-z-lt0 c = (search (put_negative, rules), search rules)
 
 pub overflow_cast-z : goal.overflow_cast-z
-overflow_cast-z c = let start = c in whole_cast start.args.z start.ranges.z c.if-z-lt0.false
+overflow_cast-z c = whole_cast c.args.z c.ranges.z c.if-z-lt0.false
 
 pub returns : goal.returns
 returns c = (search (put_whole, rules), search rules)

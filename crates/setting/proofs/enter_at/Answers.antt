@@ -22,4 +22,6 @@ pub returns-in-Refused : goal.returns-in-Refused
 returns-in-Refused c = search enter_refused
 
 pub returns-in-Enters : goal.returns-in-Enters
-returns-in-Enters c = enter_made (mem c.args.slots.now c.args.counters.now c.args.items.now) c.args.g c.args.homes c.args.room c.args.shift c.in-Enters.is c.make_moves-left.ensures c.enter_entry.ensures
+returns-in-Enters c =
+    enter_made (mem c.args.slots.now c.args.counters.now c.args.items.now) c.args.g c.args.homes c.args.room c.args.shift c.in-Enters.is
+    c.make_moves-left.ensures c.enter_entry.ensures
