@@ -272,7 +272,6 @@ fn digit(status: u8) -> u8
     b'0' + status
 }
 
-// Behind what descriptor 3 was given before. Where it is not open, nobody hears the digit.
 // Whether a descriptor was opened for writing: the octal number behind `flags:` ends with the mode, 0 for reading alone.
 fn is_writable(info: &[u8]) -> bool {
     info.split(|&b| b == b'\n')
@@ -303,15 +302,15 @@ fn open_status(rt: &HostRuntime) -> io::Result<File> {
     OpenOptions::new().append(true).open(rt, STATUS_PATH)
 }
 
+// Behind what descriptor 3 was given before. Where it is not open, nobody hears the digit.
 fn tell(rt: &HostRuntime, status: u8)
     requires { status ≤ 2 }
 {
-    let told = [digit(status)];
     if !takes_status(rt) {
         return;
     }
     if let Ok(mut file) = open_status(rt) {
-        let _ = file.write_all(&told);
+        let _ = file.write_all(&[digit(status)]);
     }
 }
 
