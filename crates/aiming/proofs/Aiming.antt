@@ -5,7 +5,7 @@ use native.Mathlib.Decide.{ℕ_discrete}
 use mathlib.Core.Path.{◌≡◌, refl, sym, ap, ◌∙◌, ap₂}
 use mathlib.Core.Logic.{dite}
 use mathlib.Core.Bool.{Bool, true, false, not}
-use mathlib.Core.Option.{Option, some}
+use Rattle.std.specs.Prelude.{Option, Some}
 use mathlib.Core.List.{List, ◌++◌}
 use lib.ListN.{length, get_or}
 use lib.Dec.{eqb}
@@ -60,7 +60,7 @@ module _ (W : Ways) (m : Mem) (p n : ℕ) {x : ℕ} {h : Homes} {b : Bool} (a : 
   abbrev slot_due : ℕ → Outcome
   slot_due hand = evict_slot (shape_of W m) m hand the_victim x (slot_of (shape_of W m) m x p)
 
-  in_turn : (hand : ℕ) → evict_at (shape_of W m) m hand (some the_victim) ≡ choose b (refuse 8) (choose (home_damage (shape_of W m) m x) (refuse 4) (slot_due hand))
+  in_turn : (hand : ℕ) → evict_at (shape_of W m) m hand (Some the_victim) ≡ choose b (refuse 8) (choose (home_damage (shape_of W m) m x) (refuse 4) (slot_due hand))
   in_turn hand =
       ap (evict_animal (shape_of W m) m hand the_victim) (sym number)
       ∙ ap (λ z. choose z (refuse 8) (choose (home_damage (shape_of W m) m x) (refuse 4) (slot_due hand)))
@@ -75,7 +75,7 @@ module _ (W : Ways) (m : Mem) (p n : ℕ) {x : ℕ} {h : Homes} {b : Bool} (a : 
 
   module _ (calm : b ≡ false) {ws : List ℕ} {k : ℕ} {c : Bool} (words : ws ≡ home_words W.ways m.slots h.first h.second)
       (places : k ≡ length m.items / 4) (damage : c ≡ any (damaged k) ws) where
-    past_busy : (hand : ℕ) → evict_at (shape_of W m) m hand (some the_victim) ≡ choose c (refuse 4) (slot_due hand)
+    past_busy : (hand : ℕ) → evict_at (shape_of W m) m hand (Some the_victim) ≡ choose c (refuse 4) (slot_due hand)
     past_busy hand =
         in_turn hand ∙ ap (λ z. choose z (refuse 8) (choose (home_damage (shape_of W m) m x) (refuse 4) (slot_due hand))) calm
         ∙ ap (λ z. choose z (refuse 4) (slot_due hand)) (sym (damage_is W m x hs words places damage))
@@ -94,7 +94,7 @@ module _ (W : Ways) (m : Mem) (p n : ℕ) {x : ℕ} {h : Homes} {b : Bool} (a : 
           ∙ ap₂ (λ (f g : ℕ). first (λ i. eqb (get_or m.slots i 0) ((shape_of W m).tag_of x * 65536 + p)) (range (f * W.ways) W.ways ++ range (g * W.ways) W.ways))
           hs.first_is hs.second_is)
 
-      past_hurt : (hand : ℕ) → evict_at (shape_of W m) m hand (some the_victim) ≡ evict_slot (shape_of W m) m hand the_victim x slot_seen
+      past_hurt : (hand : ℕ) → evict_at (shape_of W m) m hand (Some the_victim) ≡ evict_slot (shape_of W m) m hand the_victim x slot_seen
       past_hurt hand =
           past_busy hand ∙ ap (λ z. choose z (refuse 4) (slot_due hand)) sound ∙ ap (evict_slot (shape_of W m) m hand the_victim x) slot_is
 

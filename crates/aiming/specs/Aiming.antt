@@ -1,6 +1,5 @@
 -- What evict's look has found out, as an outcome; and what its steps take. Assumes nothing.
-use Rattle.std.specs.Prelude.{ℕ, ◌+◌, ◌*◌, ◌<◌, ◌≤◌, ◌-◌, ◌%◌, ◌/◌, min, ◌≡◌, true, List, [], ◌∷◌, ◌++◌, length}
-use Rattle.std.proofs.Math.Option.{some}
+use Rattle.std.specs.Prelude.{ℕ, ◌+◌, ◌*◌, ◌<◌, ◌≤◌, ◌-◌, ◌%◌, ◌/◌, min, ◌≡◌, true, List, [], ◌∷◌, ◌++◌, length, Some}
 use Rattle.model.specs.Memory.{Mem}
 use Rattle.model.specs.Shape.{Ways, right_lengths, shape_of}
 use Rattle.model.specs.Stores.{remove}
@@ -54,7 +53,7 @@ module _ (W : Ways) where
     pub below : p < places_in m
 
   pub record AimsAt (m : Mem) (p n : ℕ) (r : Aim) : Type 0 where
-    pub comes : (hand : ℕ) → aiming m hand r ≡ evict_at (shape_of W m) m hand (some (record { place = p; looked = n }))
+    pub comes : (hand : ℕ) → aiming m hand r ≡ evict_at (shape_of W m) m hand (Some (record { place = p; looked = n }))
     pub aims : Aims p n r
 
   -- the lengths are good, and the hand is at a place

@@ -1,6 +1,5 @@
 -- The C clothes of an answer: document 01's number and values of it, as the fields of a reply. Assumes nothing.
-use Rattle.std.specs.Prelude.{ℕ, length, ℤ, pos}
-use Rattle.std.proofs.Math.Option.{get_or}
+use Rattle.std.specs.Prelude.{ℕ, length, ℤ, pos, unwrap_or}
 use Rattle.model.specs.Choice.{choose}
 use Rattle.model.specs.Moves.{four_records}
 use Rattle.model.specs.Answers.{Answer, hand_back, is, moves_told, paper, value}
@@ -25,7 +24,7 @@ abbrev pub permission_told : Answer → ℕ
 permission_told a = choose (is 1 a) (value a 1) 0
 
 abbrev pub left_told : Answer → ℤ
-left_told a = get_or (paper a).signed (pos 0)
+left_told a = unwrap_or (paper a).signed (pos 0)
 
 -- read, serve and the plain engine
 abbrev pub reading_clothes : Answer → BoughladderReading

@@ -4,7 +4,7 @@ use native.Mathlib.Omega.{arith}
 use mathlib.Core.Path.{◌≡◌, refl, sym, ap, ◌∙◌, ap₂}
 use mathlib.Core.Logic.{◌≢◌}
 use mathlib.Core.Bool.{Bool, true, false}
-use mathlib.Core.Option.{Option, none, some}
+use Rattle.std.specs.Prelude.{Option, Some, None}
 use mathlib.Core.List.{List, [], ◌∷◌, ◌++◌}
 use lib.ListN.{get_or}
 use lib.Dec.{eqb}
@@ -35,18 +35,18 @@ use Rattle.looking.specs.declared.Slot.{Slot}
 use Rattle.looking.specs.declared.Slot.TheVariants as slot
 
 -- the first slot with a word is the hit, where it is the word of a hit
-same_word : (F : ℕ → Bool) (g : ℕ → ℕ) (is : List ℕ) (i : ℕ) → first (λ j. F (g j)) is ≡ some i → first (λ j. eqb (g j) (g i)) is ≡ some i
+same_word : (F : ℕ → Bool) (g : ℕ → ℕ) (is : List ℕ) (i : ℕ) → first (λ j. F (g j)) is ≡ Some i → first (λ j. eqb (g j) (g i)) is ≡ Some i
 unfolding first
 same_word F g [] i e = let z : ◌≡◌ {A = ℕ} 0 1 = cc in absurd (omega arith)
 same_word F g (j ∷ is) i e =
-    bool (λ b. F (g j) ≡ b → choose b (some j) (first (λ j. F (g j)) is) ≡ some i → choose (eqb (g j) (g i)) (some j) (first (λ j. eqb (g j) (g i)) is) ≡ some i)
+    bool (λ b. F (g j) ≡ b → choose b (Some j) (first (λ j. F (g j)) is) ≡ Some i → choose (eqb (g j) (g i)) (Some j) (first (λ j. eqb (g j) (g i)) is) ≡ Some i)
     (F (g j)) (λ t q e. let f : j ≡ i = cc in rw (eq-eqb (g j) (g i) (ap g f), f))
     (λ t q e. rw (ne_eqb (g j) (g i) (λ s. true_false (passes is e) (ap F (sym s) ∙ q))) (same_word F g is i e)) refl e
   where
-    passes : (is : List ℕ) → first (λ j. F (g j)) is ≡ some i → F (g i) ≡ true
+    passes : (is : List ℕ) → first (λ j. F (g j)) is ≡ Some i → F (g i) ≡ true
     passes is e = go (first_is (λ j. F (g j)) is) e
       where
-        go : {o : Option ℕ} → First (λ j. F (g j)) is o → o ≡ some i → F (g i) ≡ true
+        go : {o : Option ℕ} → First (λ j. F (g j)) is o → o ≡ Some i → F (g i) ≡ true
         go (found {i = k} q t) e = let f : k ≡ i = cc in rw (← f) t
         go (missing h) e = let z : ◌≡◌ {A = ℕ} 0 1 = cc in absurd (omega arith)
 
@@ -66,26 +66,26 @@ module _ (W : Ways) (m : Mem) (x : ℕ) {r : Looked} (p : Passed W m x false) (l
       let s = look_lacks W m x false rest p l q in
       sym (s.0 ∙ ap (delete_at Y m x) (no_place (hit Y m x) s.1))
     where
-      no_place : (o : Option ℕ) → place_at m o ≡ none → o ≡ none
-      no_place none q = refl
-      no_place (some i) q = let z : ◌≡◌ {A = ℕ} 0 1 = cc in absurd (omega arith)
+      no_place : (o : Option ℕ) → place_at m o ≡ None → o ≡ None
+      no_place None q = refl
+      no_place (Some i) q = let z : ◌≡◌ {A = ℕ} 0 1 = cc in absurd (omega arith)
 
   module _ {w : ℕ} (q : r.look ≡ look.At w) where
     -- the hit is a slot with that word
-    hit_slot : (i : ℕ) × (hit Y m x ≡ some i) × (word m i ≡ w)
+    hit_slot : (i : ℕ) × (hit Y m x ≡ Some i) × (word m i ≡ w)
     unfolding mapped
     hit_slot = go (hit Y m x) refl
       where
         held : (w ≢ 0) × (w ≡ own_word W m x)
         held = let s = look_holds W m x false rest p l q in (s.2, s.3)
 
-        go : (o : Option ℕ) → hit Y m x ≡ o → (i : ℕ) × (hit Y m x ≡ some i) × (word m i ≡ w)
-        go none e = absurd (held.0 (held.1 ∙ hit_words W m x ∙ ap (λ o. found_word (mapped (word m) o)) e))
-        go (some i) e = (i, e, sym (held.1 ∙ hit_words W m x ∙ ap (λ o. found_word (mapped (word m) o)) e))
+        go : (o : Option ℕ) → hit Y m x ≡ o → (i : ℕ) × (hit Y m x ≡ Some i) × (word m i ≡ w)
+        go None e = absurd (held.0 (held.1 ∙ hit_words W m x ∙ ap (λ o. found_word (mapped (word m) o)) e))
+        go (Some i) e = (i, e, sym (held.1 ∙ hit_words W m x ∙ ap (λ o. found_word (mapped (word m) o)) e))
 
     -- what the search for the word comes to
     module _ (s : Slot) (e : slot_found s ≡ first (λ i. eqb (get_or m.slots i 0) w) (range (r.homes.first * W.ways) W.ways ++ range (r.homes.second * W.ways) W.ways)) where
-      found_slot : slot_found s ≡ some hit_slot.0
+      found_slot : slot_found s ≡ Some hit_slot.0
       unfolding hit hits
       found_slot =
           e ∙ ap₂ (λ (a b : ℕ). first (λ i. eqb (get_or m.slots i 0) w) (range (a * W.ways) W.ways ++ range (b * W.ways) W.ways))
@@ -95,14 +95,14 @@ module _ (W : Ways) (m : Mem) (x : ℕ) {r : Looked} (p : Passed W m x false) (l
 
       pub removal_nowhere : s ≡ slot.Nowhere → refuse 7 ≡ lent_call W m (delete x)
       removal_nowhere z =
-          let f : none ≡ some hit_slot.0 = sym (ap slot_found z) ∙ found_slot in
+          let f : None ≡ Some hit_slot.0 = sym (ap slot_found z) ∙ found_slot in
           let y : ◌≡◌ {A = ℕ} 0 1 = cc in
           absurd (omega arith)
 
       pub removal_takes : {i : ℕ} → s ≡ slot.At i → removing (removal.Takes r.homes.counter i (w % 65536)) ≡ lent_call W m (delete x)
       unfolding place
       removal_takes {i} z =
-          let f : some i ≡ some hit_slot.0 = sym (ap slot_found z) ∙ found_slot in
+          let f : Some i ≡ Some hit_slot.0 = sym (ap slot_found z) ∙ found_slot in
           let j : i ≡ hit_slot.0 = cc in
           sym ((look_holds W m x false rest p l q).0 ∙ ap (delete_at Y m x) hit_slot.1
           ∙ ap₂ (λ (c y : ℕ). record { answer = deleted; blocks = remove c hit_slot.0 (y % 65536) ∷ [] }) (sym l.homes_are.counter_is) hit_slot.2
@@ -121,8 +121,8 @@ unfolding stores
 few_delete W m x = few_asked W m x false (few (hit (shape_of W m) m x))
   where
     few : (o : Option ℕ) → Few 7 (delete_at (shape_of W m) m x o)
-    few none = few_refuse 7
-    few (some i) = record { few = omega arith }
+    few None = few_refuse 7
+    few (Some i) = record { few = omega arith }
 
 module _ (W : Ways) (m : Mem) (x : ℕ) where
   pub cut_early : {n k : ℕ} → n ≡ early (right_lengths W m) x false → n ≢ 0 → CutAs W m (delete x) k m (refused n)

@@ -3,7 +3,7 @@ use Prim.Native.Nat.{ℕ, zero, suc, ◌+◌, ◌*◌, ◌≤◌, ◌-◌, ◌%�
 use native.Mathlib.Omega.{arith}
 use mathlib.Core.Path.{◌≡◌, refl, sym, ap, ◌∙◌, subst}
 use mathlib.Core.Bool.{◌&&◌}
-use mathlib.Core.Option.{Option, none, some}
+use Rattle.std.specs.Prelude.{Option, Some, None}
 use mathlib.Core.List.{List, [], ◌∷◌, ◌++◌, append-nil}
 use lib.ListN.{length, length-append}
 use lib.Dec.{leb}
@@ -77,8 +77,8 @@ few_clears M l (suc k) h =
 -- at most a clear for each place, and the seven stores of a delete
 module _ (Y : Shape) (m : Mem) (hand : ℕ) where
   few_slot : (v : Victim) (x : ℕ) (o : Option ℕ) → Few (Y.places + 7) (evict_slot Y m hand v x o)
-  few_slot v x none = few_refuse 4
-  few_slot v x (some i) =
+  few_slot v x None = few_refuse 4
+  few_slot v x (Some i) =
       let b = remove (counter_of Y x) i v.place in
       record {
         few = rw (blocks_stores (clears Y.places m.items hand v) b, length-append)
@@ -86,8 +86,8 @@ module _ (Y : Shape) (m : Mem) (hand : ℕ) where
       }
 
   few_at : (o : Option Victim) → Few (Y.places + 7) (evict_at Y m hand o)
-  few_at none = few_refuse 10
-  few_at (some v) =
+  few_at None = few_refuse 10
+  few_at (Some v) =
       let x = animal m.items v.place in
       few_or (busy Y m x) (few_refuse 8) (few_or (home_damage Y m x) (few_refuse 4) (few_slot v x (slot_of Y m x v.place)))
 

@@ -5,7 +5,7 @@ use native.Mathlib.Decide.{ℕ_discrete}
 use mathlib.Core.Path.{◌≡◌, refl, sym, ◌∙◌}
 use mathlib.Core.Logic.{◌≢◌, dite}
 use mathlib.Core.Bool.{Bool, true, false, ◌||◌}
-use mathlib.Core.Option.{some}
+use Rattle.std.specs.Prelude.{Some}
 use mathlib.Core.List.{List, [], ◌∷◌}
 use lib.ListN.{length}
 use lib.Dec.{eqb, leb, ltb}
@@ -51,7 +51,7 @@ module _ (M t : ℕ) (pos : 1 ≤ t) where
   unfolding first
   found_in l x [] d e nz = absurd (nz e)
   found_in l x (v ∷ ws) d {w} e nz =
-      bool (λ b. leads l t x v ≡ b → w ≡ found_word (choose b (some v) (first (leads l t x) ws)) → place w < M) (leads l t x v)
+      bool (λ b. leads l t x v ≡ b → w ≡ found_word (choose b (Some v) (first (leads l t x) ws)) → place w < M) (leads l t x v)
       (λ q h e. rw e (sound_place M v (has_tag h) (both_sound v ws d).0)) (λ q h e. found_in l x ws (both_sound v ws d).1 e nz) refl e
     where
       has_tag : leads l t x v ≡ true → 1 ≤ tag v

@@ -5,7 +5,7 @@ use native.Mathlib.Decide.{ℕ_discrete}
 use mathlib.Core.Path.{◌≡◌, refl, sym, ap, ◌∙◌}
 use mathlib.Core.Logic.{◌≢◌, dite}
 use mathlib.Core.Bool.{Bool, true, false, ◌||◌}
-use mathlib.Core.Option.{none, some}
+use Rattle.std.specs.Prelude.{Some, None}
 use mathlib.Core.List.{List, [], ◌∷◌, map, ◌++◌, append-nil}
 use lib.ListN.{get_or}
 use lib.Dec.{eqb}
@@ -18,7 +18,7 @@ use Rattle.home_words.specs.HomeWords.{or_else, found_word, leads, tag_sum, home
 -- any of a list passes: the first, or any of the rest
 pub any_cons : (f : ℕ → Bool) (w : ℕ) (ws : List ℕ) → any f (w ∷ ws) ≡ (f w || any f ws)
 unfolding first
-any_cons f w ws = bool (λ b. there (choose b (some w) (first f ws)) ≡ (b || any f ws)) (f w) (λ e. refl) λ e. refl
+any_cons f w ws = bool (λ b. there (choose b (Some w) (first f ws)) ≡ (b || any f ws)) (f w) (λ e. refl) λ e. refl
 
 any_nil : (f : ℕ → Bool) → any f [] ≡ false
 unfolding first
@@ -93,7 +93,7 @@ module _ (t : ℕ) (pos : 1 ≤ t) where
     lead w = leads l t x w
 
     -- no word has the tag
-    pub hit_none : (ws : List ℕ) → tag_sum t ws ≡ 0 → first lead ws ≡ none
+    pub hit_none : (ws : List ℕ) → tag_sum t ws ≡ 0 → first lead ws ≡ None
     unfolding first tag_sum tag
     hit_none [] e = refl
     hit_none (w ∷ ws) e =
@@ -123,7 +123,7 @@ module _ (t : ℕ) (pos : 1 ≤ t) where
     pub hit_cons : (w : ℕ) (ws : List ℕ) → found_word (first lead (w ∷ ws)) ≡ or_else (found_word (first lead (w ∷ []))) (found_word (first lead ws))
     unfolding first
     hit_cons w ws =
-        bool (λ b. lead w ≡ b → found_word (choose b (some w) (first lead ws)) ≡ or_else (found_word (choose b (some w) none)) (found_word (first lead ws)))
+        bool (λ b. lead w ≡ b → found_word (choose b (Some w) (first lead ws)) ≡ or_else (found_word (choose b (Some w) None)) (found_word (first lead ws)))
         (lead w) (λ q e. rw (ne_eqb w 0 (leading w e))) (λ q e. refl) refl
 
 -- the same with the number that was read

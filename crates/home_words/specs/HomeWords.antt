@@ -1,6 +1,5 @@
 -- The words of an animal's home slots, and what is looked for among them. Assumes nothing.
-use Rattle.std.specs.Prelude.{ℕ, ◌+◌, ◌*◌, Bool, false, List, [], ◌∷◌, ◌++◌, map, get_or, eqb}
-use Rattle.std.proofs.Math.Option.{Option, none, some}
+use Rattle.std.specs.Prelude.{ℕ, ◌+◌, ◌*◌, Bool, false, List, [], ◌∷◌, ◌++◌, map, get_or, eqb, Option, Some, None}
 use Rattle.model.specs.Choice.{choose, range}
 use Rattle.model.specs.Memory.{animal, place, tag}
 use Rattle.home_words.specs.declared.Eight.{Eight}
@@ -24,8 +23,8 @@ leads l t x w = choose (eqb (tag w) t) (eqb (animal l (place w)) x) false
 
 -- the word that was found; 0 if none
 abbrev pub found_word : Option ℕ → ℕ
-found_word none = 0
-found_word (some w) = w
+found_word None = 0
+found_word (Some w) = w
 
 -- a, or b if a is 0
 abbrev pub or_else : ℕ → ℕ → ℕ

@@ -5,7 +5,7 @@ use native.Mathlib.Omega.{arith}
 use mathlib.Core.Path.{◌≡◌, refl, sym, ap, ◌∙◌}
 use mathlib.Core.Logic.{dite}
 use mathlib.Core.Bool.{◌&&◌}
-use mathlib.Core.Option.{none}
+use Rattle.std.specs.Prelude.{None}
 use mathlib.Core.List.{List}
 use lib.ListN.{length, take}
 use lib.Seq.{length-take-le}
@@ -36,7 +36,7 @@ use Rattle.judge_program.specs.declared.Dumped.TheVariants as dumped
 
 -- good lengths fit what is lent
 module _ (s v i : ℕ) {b : Breach} (e : seen b ≡ first (is_misshapen four s v i) (range 0 3)) (q : b ≡ Nowhere) where
-  nowhere : first (is_misshapen four s v i) (range 0 3) ≡ none
+  nowhere : first (is_misshapen four s v i) (range 0 3) ≡ None
   nowhere = sym e ∙ ap seen q
 
   slots_short : s ≤ 8192

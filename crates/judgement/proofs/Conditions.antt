@@ -5,7 +5,7 @@ use native.Mathlib.Decide.{ℕ_discrete, dec_lt}
 use mathlib.Core.Path.{◌≡◌, refl, sym, ap, ◌∙◌}
 use mathlib.Core.Logic.{◌≢◌, ◌⊎◌, inl, inr, dite, ⊎_elim}
 use mathlib.Core.Bool.{Bool, true, false, not, ◌&&◌, ◌||◌}
-use mathlib.Core.Option.{none}
+use Rattle.std.specs.Prelude.{None}
 use mathlib.Core.List.{List}
 use lib.ListN.{length, get_or, get_or-eq_default}
 use lib.Dec.{eqb}
@@ -101,19 +101,19 @@ module _ (Y : Shape) where
 
   module _ (m : Mem) where
     -- each condition, where no slot, counter or place breaks it, holds of every number: outside of a run every word reads 0
-    pub two_holds : first (is_hurt Y.places m.slots) (range 0 (length m.slots)) ≡ none → (i : ℕ) → damaged Y.places (word m i) ≡ false
+    pub two_holds : first (is_hurt Y.places m.slots) (range 0 (length m.slots)) ≡ None → (i : ℕ) → damaged Y.places (word m i) ≡ false
     two_holds e i =
         dite (dec_lt i (length m.slots)) (λ h. none_range (is_hurt Y.places m.slots) (length m.slots) e i h)
         λ h. rw (outside m.slots i (omega arith)) (free_sound Y)
 
-    pub three_holds : first (is_uneven m.counters) (range 0 (length m.counters)) ≡ none → (c : ℕ) → get_or m.counters c 0 % 2 ≡ 0
+    pub three_holds : first (is_uneven m.counters) (range 0 (length m.counters)) ≡ None → (c : ℕ) → get_or m.counters c 0 % 2 ≡ 0
     three_holds e c =
         dite (dec_lt c (length m.counters))
         (λ h. eqb-true (get_or m.counters c 0 % 2) 0 (not-false (eqb (get_or m.counters c 0 % 2) 0)
         (none_range (is_uneven m.counters) (length m.counters) e c h)))
         λ h. rw (outside m.counters c (omega arith))
 
-    pub four_holds : first (is_stray Y m) (range 0 (length m.slots)) ≡ none
+    pub four_holds : first (is_stray Y m) (range 0 (length m.slots)) ≡ None
         → (i : ℕ) → word m i ≢ 0 → Right Y (animal m.items (place (word m i))) (word m i) i
     unfolding is_stray
     four_holds e i nz =
@@ -141,7 +141,7 @@ module _ (Y : Shape) where
       pub live_inside : (p : ℕ) → Live m.items p → p < Y.places
       live_inside p h = dite (dec_lt p Y.places) (λ l. l) λ l. absurd (h (get_or-eq_default m.items 0 (omega (arith, long))))
 
-      pub five_holds : first (is_unsought Y m) (range 0 Y.places) ≡ none → (p : ℕ) → Live m.items p → Sole m.slots p
+      pub five_holds : first (is_unsought Y m) (range 0 Y.places) ≡ None → (p : ℕ) → Live m.items p → Sole m.slots p
       unfolding is_unsought
       five_holds e p h =
           single_sole p (count_single (λ i. names p (word m i)) (range 0 (length m.slots))
@@ -149,7 +149,7 @@ module _ (Y : Shape) where
           (not-false (eqb (count (λ i. names p (word m i)) (range 0 (length m.slots))) 1)
           (and_no (none_range (is_unsought Y m) Y.places e p (live_inside p h)) (live_yes m.items p h)))))
 
-      pub six_holds : first (is_doubled Y m) (range 0 Y.places) ≡ none
+      pub six_holds : first (is_doubled Y m) (range 0 Y.places) ≡ None
           → (p q : ℕ) → Live m.items p → animal m.items p ≡ animal m.items q → p ≡ q
       unfolding is_doubled
       six_holds e p q h a =
@@ -160,12 +160,12 @@ module _ (Y : Shape) where
           (is_twin m.items (animal m.items p) p q (λ k. ne (sym k)) (sym a)))
           (and_no (none_range (is_doubled Y m) Y.places e p (live_inside p h)) (live_yes m.items p h))
 
-      pub seven_holds : first (is_wide m.items) (range 0 Y.places) ≡ none → (p : ℕ) → permission m.items p < 2 ^ 32
+      pub seven_holds : first (is_wide m.items) (range 0 Y.places) ≡ None → (p : ℕ) → permission m.items p < 2 ^ 32
       seven_holds e p =
           dite (dec_lt p Y.places) (λ h. leb-false (2 ^ 32) (permission m.items p) (none_range (is_wide m.items) Y.places e p h))
           λ h. rw (outside m.items (4 * p + 1) (omega (arith, long))) (omega arith)
 
-      pub eight_holds : first (is_unswept m.items) (range 0 Y.places) ≡ none → (p : ℕ) → animal m.items p ≡ 0
+      pub eight_holds : first (is_unswept m.items) (range 0 Y.places) ≡ None → (p : ℕ) → animal m.items p ≡ 0
           → (permission m.items p ≡ 0) × (stamp m.items p ≡ 0) × (recent m.items p ≡ 0)
       eight_holds e p z =
           dite (dec_lt p Y.places)
@@ -191,20 +191,20 @@ module _ (Y : Shape) where
 
     -- and the other way round
     module _ (g : WellFormed Y m) where
-      pub holds_two : first (is_hurt Y.places m.slots) (range 0 (length m.slots)) ≡ none
+      pub holds_two : first (is_hurt Y.places m.slots) (range 0 (length m.slots)) ≡ None
       holds_two = range_none (is_hurt Y.places m.slots) (length m.slots) (λ i h. g.undamaged i)
 
-      pub holds_three : first (is_uneven m.counters) (range 0 (length m.counters)) ≡ none
+      pub holds_three : first (is_uneven m.counters) (range 0 (length m.counters)) ≡ None
       holds_three = range_none (is_uneven m.counters) (length m.counters) (λ c h. rw (eq-eqb (get_or m.counters c 0 % 2) 0 (g.even c)))
 
-      pub holds_four : first (is_stray Y m) (range 0 (length m.slots)) ≡ none
+      pub holds_four : first (is_stray Y m) (range 0 (length m.slots)) ≡ None
       unfolding is_stray
       holds_four =
           range_none (is_stray Y m) (length m.slots)
           λ i h. and_not (λ t. rw (is_right (animal m.items (place (word m i))) (word m i) i
           (g.points i (eqb-false (word m i) 0 (not-true (eqb (word m i) 0) t)))))
 
-      pub holds_five : first (is_unsought Y m) (range 0 Y.places) ≡ none
+      pub holds_five : first (is_unsought Y m) (range 0 Y.places) ≡ None
       unfolding is_unsought
       holds_five =
           range_none (is_unsought Y m) Y.places
@@ -212,7 +212,7 @@ module _ (Y : Shape) where
           (single_count (λ i. names p (word m i)) (range 0 (length m.slots)) (once_range 0 (length m.slots))
           (sole_single p (g.pointed p (yes_live m.items p t))))))
 
-      pub holds_six : first (is_doubled Y m) (range 0 Y.places) ≡ none
+      pub holds_six : first (is_doubled Y m) (range 0 Y.places) ≡ None
       unfolding is_doubled
       holds_six =
           range_none (is_doubled Y m) Y.places
@@ -221,10 +221,10 @@ module _ (Y : Shape) where
           (λ u v. let w = twin_is m.items (animal m.items p) p q v in absurd (w.0 (sym (g.distinct p q (yes_live m.items p t) (sym w.1)))))
           (λ u v. refl) refl)
 
-      pub holds_seven : first (is_wide m.items) (range 0 Y.places) ≡ none
+      pub holds_seven : first (is_wide m.items) (range 0 Y.places) ≡ None
       holds_seven = range_none (is_wide m.items) Y.places (λ p h. lt-leb (2 ^ 32) (permission m.items p) (g.narrow p))
 
-      pub holds_eight : first (is_unswept m.items) (range 0 Y.places) ≡ none
+      pub holds_eight : first (is_unswept m.items) (range 0 Y.places) ≡ None
       holds_eight =
           range_none (is_unswept m.items) Y.places
           λ p h. and_not (λ t. let b = g.bare p (eqb-true (animal m.items p) 0 t) in

@@ -5,7 +5,7 @@ use native.Mathlib.Decide.{ℕ_discrete}
 use mathlib.Core.Path.{◌≡◌, refl, sym, ap, ◌∙◌, subst}
 use mathlib.Core.Logic.{◌⊎◌, inl, inr, dite, ⊎_elim}
 use mathlib.Core.Bool.{Bool, true, false}
-use mathlib.Core.Option.{Option, none, some}
+use Rattle.std.specs.Prelude.{Option, Some, None}
 use mathlib.Core.List.Memᴰ.{head}
 use mathlib.Core.List.Memᴰ.{tail}
 use mathlib.Core.List.{List, [], ◌∷◌, ◌++◌, Memᴰ as In}
@@ -15,22 +15,22 @@ use Rattle.model.proofs.ListLaws.{First, found, missing, first_is, bool, true_fa
 use Rattle.judgement.specs.Conditions.{count}
 
 -- nothing found: none passes
-none_in : {f : ℕ → Bool} {l : List ℕ} {o : Option ℕ} → First f l o → o ≡ none → (i : ℕ) → In i l → f i ≡ false
+none_in : {f : ℕ → Bool} {l : List ℕ} {o : Option ℕ} → First f l o → o ≡ None → (i : ℕ) → In i l → f i ≡ false
 none_in (missing h) e = h
 none_in (found {i = k} q t) e = let z : ◌≡◌ {A = ℕ} 0 1 = cc in absurd (omega arith)
 
-pub none_all : (f : ℕ → Bool) (l : List ℕ) → first f l ≡ none → (i : ℕ) → In i l → f i ≡ false
+pub none_all : (f : ℕ → Bool) (l : List ℕ) → first f l ≡ None → (i : ℕ) → In i l → f i ≡ false
 none_all f l e = none_in (first_is f l) e
 
-pub none_range : (f : ℕ → Bool) (n : ℕ) → first f (range 0 n) ≡ none → (i : ℕ) → i < n → f i ≡ false
+pub none_range : (f : ℕ → Bool) (n : ℕ) → first f (range 0 n) ≡ None → (i : ℕ) → i < n → f i ≡ false
 none_range f n e i h = none_all f (range 0 n) e i (range_in 0 n (omega arith) (omega arith))
 
-pub all_none : (f : ℕ → Bool) (l : List ℕ) → ((i : ℕ) → In i l → f i ≡ false) → first f l ≡ none
+pub all_none : (f : ℕ → Bool) (l : List ℕ) → ((i : ℕ) → In i l → f i ≡ false) → first f l ≡ None
 unfolding first
 all_none f [] h = refl
 all_none f (i ∷ l) h = rw (h i (head refl)) (all_none f l (λ j q. h j (tail q)))
 
-pub range_none : (f : ℕ → Bool) (n : ℕ) → ((i : ℕ) → i < n → f i ≡ false) → first f (range 0 n) ≡ none
+pub range_none : (f : ℕ → Bool) (n : ℕ) → ((i : ℕ) → i < n → f i ≡ false) → first f (range 0 n) ≡ None
 range_none f n h = all_none f (range 0 n) (λ i q. h i (omega (arith, in_range 0 n q)))
 
 -- something found: the lowest that passes
@@ -40,11 +40,11 @@ pub record Lowest (f : ℕ → Bool) (a n i : ℕ) : Type 0 where
   pub passes : f i ≡ true
   pub below : (j : ℕ) → a ≤ j → j < i → f j ≡ false
 
-pub lowest : (f : ℕ → Bool) (a n i : ℕ) → first f (range a n) ≡ some i → Lowest f a n i
+pub lowest : (f : ℕ → Bool) (a n i : ℕ) → first f (range a n) ≡ Some i → Lowest f a n i
 unfolding first range
 lowest f a zero i e = let z : ◌≡◌ {A = ℕ} 0 1 = cc in absurd (omega arith)
 lowest f a (suc n) i e =
-    bool (λ b. choose b (some a) (first f (range (suc a) n)) ≡ some i → f a ≡ b → Lowest f a (suc n) i) (f a)
+    bool (λ b. choose b (Some a) (first f (range (suc a) n)) ≡ Some i → f a ≡ b → Lowest f a (suc n) i) (f a)
     (λ q e t. let k : a ≡ i = cc in
     record { from = omega arith; inside = omega arith; passes = rw (← k) t; below = λ j h h'. absurd (omega arith) })
     (λ q e t. let r = lowest f (suc a) n i e in
@@ -59,9 +59,9 @@ lowest f a (suc n) i e =
 pub any_in : (f : ℕ → Bool) (l : List ℕ) (i : ℕ) → In i l → f i ≡ true → any f l ≡ true
 any_in f l i q t = bool (λ b. any f l ≡ b → b ≡ true) (any f l) (λ e h. refl) (λ e h. true_false t (none_all f l (none_of (first f l) h) i q)) refl
   where
-    none_of : (o : Option ℕ) → there o ≡ false → o ≡ none
-    none_of none h = refl
-    none_of (some i) h = true_false refl h
+    none_of : (o : Option ℕ) → there o ≡ false → o ≡ None
+    none_of None h = refl
+    none_of (Some i) h = true_false refl h
 
 pub in_any : (f : ℕ → Bool) (l : List ℕ) → any f l ≡ true → (i : ℕ) × In i l × (f i ≡ true)
 in_any f l t = go (first_is f l) t

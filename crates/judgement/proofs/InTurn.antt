@@ -5,7 +5,7 @@ use native.Mathlib.Decide.{ℕ_discrete}
 use mathlib.Core.Path.{◌≡◌, refl, ap, ◌∙◌}
 use mathlib.Core.Logic.{dite}
 use mathlib.Core.Bool.{Bool, true, false}
-use mathlib.Core.Option.{Option, none, some}
+use Rattle.std.specs.Prelude.{Option, Some, None}
 use mathlib.Core.List.{List, [], ◌∷◌}
 use lib.ListN.{length, get_or}
 use Rattle.model.specs.Choice.{range, first}
@@ -16,7 +16,7 @@ use Rattle.judgement.proofs.Counting.{Lowest}
 -- nothing breaks any condition of a list
 abbrev pub Unbroken : List Condition → Type 0
 Unbroken [] = Unit {0}
-Unbroken (c ∷ cs) = (breaker c ≡ none) × Unbroken cs
+Unbroken (c ∷ cs) = (breaker c ≡ None) × Unbroken cs
 
 abbrev is_sound : Verdict → ℕ
 is_sound sound = 0
@@ -28,8 +28,8 @@ sound_unbroken n (c ∷ cs) e = go (λ e. sound_unbroken (suc n) cs e) (breaker 
   where
     go : (judge_from (suc n) cs ≡ sound → Unbroken cs) → (o : Option ℕ) → breaker c ≡ o → or_broken n o (judge_from (suc n) cs) ≡ sound
         → Unbroken (c ∷ cs)
-    go rest none q e = (q, rest e)
-    go rest (some i) q e = let z : ◌≡◌ {A = ℕ} 1 0 = ap is_sound e in absurd (omega arith)
+    go rest None q e = (q, rest e)
+    go rest (Some i) q e = let z : ◌≡◌ {A = ℕ} 1 0 = ap is_sound e in absurd (omega arith)
 
 pub unbroken_sound : (n : ℕ) (cs : List Condition) → Unbroken cs → judge_from n cs ≡ sound
 unbroken_sound n [] h = refl
@@ -42,8 +42,8 @@ idle = record { extent = 0; breaks = λ i. false }
 pub record BrokenAt (n : ℕ) (cs : List Condition) (c i : ℕ) : Type 0 where
   pub low : n ≤ c
   pub high : c < n + length cs
-  pub here : breaker (get_or cs (c - n) idle) ≡ some i
-  pub before : (b : ℕ) → n ≤ b → b < c → breaker (get_or cs (b - n) idle) ≡ none
+  pub here : breaker (get_or cs (c - n) idle) ≡ Some i
+  pub before : (b : ℕ) → n ≤ b → b < c → breaker (get_or cs (b - n) idle) ≡ None
 
 pub broken_at : (n : ℕ) (cs : List Condition) (c i : ℕ) → judge_from n cs ≡ broken c i → BrokenAt n cs c i
 broken_at n [] c i e = let z : ◌≡◌ {A = ℕ} 0 1 = ap is_sound e in absurd (omega arith)
@@ -52,12 +52,12 @@ broken_at n (k ∷ cs) c i e =
   where
     go : (judge_from (suc n) cs ≡ broken c i → BrokenAt (suc n) cs c i) → (o : Option ℕ) → breaker k ≡ o
         → or_broken n o (judge_from (suc n) cs) ≡ broken c i → BrokenAt n (k ∷ cs) c i
-    go rest (some j) q e =
+    go rest (Some j) q e =
         let u : n ≡ c = cc in
         let v : j ≡ i = cc in
         let z : c - n ≡ 0 = omega arith in
         record { low = omega arith; high = omega arith; here = rw (z, ← v) q; before = λ b h h'. absurd (omega arith) }
-    go rest none q e =
+    go rest None q e =
         let r = rest e in
         let z : c - n ≡ suc (c - suc n) = omega (arith, r.low) in
         record {
@@ -74,9 +74,9 @@ at_broken n [] c i b = absurd (omega (arith, b.low, b.high))
 at_broken n (k ∷ cs) c i b =
     dite (ℕ_discrete n c)
     (λ e. let z : c - n ≡ 0 = omega arith in
-    let h : breaker k ≡ some i = rw z at b.here in ap (λ o. or_broken n o (judge_from (suc n) cs)) h ∙ ap (λ n. broken n i) e)
+    let h : breaker k ≡ Some i = rw z at b.here in ap (λ o. or_broken n o (judge_from (suc n) cs)) h ∙ ap (λ n. broken n i) e)
     λ ne. let z : n - n ≡ 0 = omega arith in
-    let h : breaker k ≡ none = rw z at (b.before n (omega arith) (omega (arith, b.low))) in
+    let h : breaker k ≡ None = rw z at (b.before n (omega arith) (omega (arith, b.low))) in
     let y : c - n ≡ suc (c - suc n) = omega (arith, b.low) in
     ap (λ o. or_broken n o (judge_from (suc n) cs)) h
     ∙ at_broken (suc n) cs c i (record {
@@ -87,7 +87,7 @@ at_broken n (k ∷ cs) c i b =
     })
 
 -- the lowest that passes is what is found
-pub found_lowest : (f : ℕ → Bool) (a n i : ℕ) → Lowest f a n i → first f (range a n) ≡ some i
+pub found_lowest : (f : ℕ → Bool) (a n i : ℕ) → Lowest f a n i → first f (range a n) ≡ Some i
 unfolding first range
 found_lowest f a zero i l = absurd (omega (arith, l.from, l.inside))
 found_lowest f a (suc n) i l =

@@ -5,7 +5,7 @@ use native.Mathlib.Omega.{arith}
 use mathlib.Core.Path.{◌≡◌, refl, sym, subst}
 use mathlib.Core.Logic.{◌↔◌}
 use mathlib.Core.Bool.{true, ◌&&◌}
-use mathlib.Core.Option.{none}
+use Rattle.std.specs.Prelude.{None}
 use lib.ListN.{length}
 use borrow.Author.Tests.{not-false}
 use Rattle.model.specs.Choice.{range, first}
@@ -58,14 +58,14 @@ module _ (W : Ways) where
       })
 
   -- condition 1
-  pub shapes_right : (m : Mem) → first (is_misshapen W (length m.slots) (length m.counters) (length m.items)) (range 0 3) ≡ none → right_lengths W m ≡ true
+  pub shapes_right : (m : Mem) → first (is_misshapen W (length m.slots) (length m.counters) (length m.items)) (range 0 3) ≡ None → right_lengths W m ≡ true
   unfolding is_misshapen good_lengths
   shapes_right m e =
       and_yes (not-false (good_slots W (length m.slots)) (none_range (is_misshapen W (length m.slots) (length m.counters) (length m.items)) 3 e 0 (omega arith)))
       (and_yes (not-false (good_counters (length m.counters)) (none_range (is_misshapen W (length m.slots) (length m.counters) (length m.items)) 3 e 1 (omega arith)))
       (not-false (good_items (length m.items)) (none_range (is_misshapen W (length m.slots) (length m.counters) (length m.items)) 3 e 2 (omega arith))))
 
-  right_shapes : (m : Mem) → right_lengths W m ≡ true → first (is_misshapen W (length m.slots) (length m.counters) (length m.items)) (range 0 3) ≡ none
+  right_shapes : (m : Mem) → right_lengths W m ≡ true → first (is_misshapen W (length m.slots) (length m.counters) (length m.items)) (range 0 3) ≡ None
   unfolding is_misshapen good_lengths first range
   right_shapes m e =
       let a = and_is (good_slots W (length m.slots)) (good_counters (length m.counters) && good_items (length m.items)) e in

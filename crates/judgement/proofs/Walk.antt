@@ -4,7 +4,7 @@ use native.Mathlib.Nat.{sub-zero}
 use native.Mathlib.Omega.{arith}
 use mathlib.Core.Path.{◌≡◌, sym, ◌∙◌}
 use mathlib.Core.Bool.{Bool, true, false}
-use mathlib.Core.Option.{some}
+use Rattle.std.specs.Prelude.{Some}
 use Rattle.model.specs.Choice.{choose, range, first}
 use Rattle.judgement.specs.Said.{seen}
 use Rattle.judgement.specs.declared.Breach.TheVariants.{At, Nowhere}
@@ -18,7 +18,7 @@ pub passed_none : (f : ℕ → Bool) (n : ℕ) → Passed f n 0
 passed_none f n = record { upto = omega arith; same = rw sub-zero }
 
 module _ {f : ℕ → Bool} {n i : ℕ} (s : Passed f n i) where
-  on : i < n → first f (range i (n - i)) ≡ choose (f i) (some i) (first f (range (i + 1) (n - (i + 1))))
+  on : i < n → first f (range i (n - i)) ≡ choose (f i) (Some i) (first f (range (i + 1) (n - (i + 1))))
   unfolding first range
   on h =
       let e : n - i ≡ suc (n - (i + 1)) = omega arith in

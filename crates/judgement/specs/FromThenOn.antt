@@ -1,6 +1,5 @@
 -- What a yes is worth: demands 2 and 3 from that memory on, whoever built it. Assumes nothing.
-use Rattle.std.specs.Prelude.{ℕ, ◌<◌, ◌≡◌, ◌⊎◌, false, List, [], ◌∷◌, ℤ}
-use Rattle.std.proofs.Math.Option.{none, some}
+use Rattle.std.specs.Prelude.{ℕ, ◌<◌, ◌≡◌, ◌⊎◌, false, List, [], ◌∷◌, ℤ, Some, None}
 use Rattle.model.specs.Memory.{Mem, stamp}
 use Rattle.model.specs.Shape.{Shape, Ways, shape_of}
 use Rattle.model.specs.Calling.{Call, Event, did, Typed, AllTyped, HasCut, about, read, serve, set_animal}
@@ -38,11 +37,11 @@ module _ (W : Ways) (T : Table) (m : Mem) where
         → (p : ℕ) × (p < Y.places) × Allowed (row_then es) x limit now v z p
     pub cut_reads : (c : Call) → Typed c → HasCut c → (k x limit now : ℕ)
         → SeenBy W T (then es) (leaves T (then es) (did c)) (cut_at T k (then es) (did c)) (about c (T.answer (then es) (did c))) x limit now
-    pub no_search : (g : Grant) → GoodInputs g → (p : ℕ) → walk_to (row_then es) g.animal Y.places 0 ≡ some p
+    pub no_search : (g : Grant) → GoodInputs g → (p : ℕ) → walk_to (row_then es) g.animal Y.places 0 ≡ Some p
         → row_late Y.places (stamp (row_then es) p) g ≡ false → T.answer (then es) (did (set_animal g)) ≡ stored 0 0
     -- demand 3: for an absent animal, a vacant place and good inputs
     pub room : (g : Grant) → GoodInputs g
-        → walk_to (row_then es) g.animal Y.places 0 ≡ none → (p : ℕ) → walk_to (row_then es) 0 Y.places 0 ≡ some p
+        → walk_to (row_then es) g.animal Y.places 0 ≡ None → (p : ℕ) → walk_to (row_then es) 0 Y.places 0 ≡ Some p
         → Roomy Y (then es).slots g.animal (T.answer (then es) (did (set_animal g))) (leaves T (then es) (did (set_animal g))).slots
 
   -- after a yes, all of that for ever

@@ -1,6 +1,5 @@
 -- The verdict on any three runs: yes, or the first condition broken and the lowest number that breaks it. Assumes nothing.
-use Rattle.std.specs.Prelude.{ℕ, suc, ◌-◌, ◌<◌, ◌≤◌, ◌≡◌, true, false, List, [], ◌∷◌, get_or}
-use Rattle.std.proofs.Math.Option.{Option, none, some}
+use Rattle.std.specs.Prelude.{ℕ, suc, ◌-◌, ◌<◌, ◌≤◌, ◌≡◌, true, false, List, [], ◌∷◌, get_or, Option, Some, None}
 use Rattle.model.specs.Choice.{range, first}
 use Rattle.model.specs.Memory.{Mem}
 use Rattle.model.specs.Shape.{Ways}
@@ -16,8 +15,8 @@ abbrev pub breaker : Condition → Option ℕ
 breaker c = first c.breaks (range 0 c.extent)
 
 abbrev pub or_broken : ℕ → Option ℕ → Verdict → Verdict
-or_broken n none v = v
-or_broken n (some i) v = broken n i
+or_broken n None v = v
+or_broken n (Some i) v = broken n i
 
 -- the first broken one of some conditions, of which the first has the number n
 abbrev pub judge_from : ℕ → List Condition → Verdict

@@ -2,7 +2,7 @@
 use Prim.Native.Nat.{ℕ, ◌/◌}
 use mathlib.Core.Path.{◌≡◌, sym, ap, ◌∙◌}
 use mathlib.Core.Bool.{true}
-use mathlib.Core.Option.{Option, none, some}
+use Rattle.std.specs.Prelude.{Option, Some, None}
 use lib.ListN.{length}
 use Rattle.model.specs.Choice.{first, range}
 use Rattle.model.specs.Memory.{Mem}
@@ -16,10 +16,10 @@ use Rattle.judgement.proofs.Sound.{shapes_right}
 use Rattle.pointing.specs.Known.{Aimed, Sought}
 
 -- a walk found nothing, or number i
-whole : {b : Breach} {o : Option ℕ} → seen b ≡ o → b ≡ Nowhere → o ≡ none
+whole : {b : Breach} {o : Option ℕ} → seen b ≡ o → b ≡ Nowhere → o ≡ None
 whole e q = sym e ∙ ap seen q
 
-at : {b : Breach} {o : Option ℕ} {i : ℕ} → seen b ≡ o → b ≡ At i → o ≡ some i
+at : {b : Breach} {o : Option ℕ} {i : ℕ} → seen b ≡ o → b ≡ At i → o ≡ Some i
 at e q = sym e ∙ ap seen q
 
 module _ (m : Mem) where

@@ -5,7 +5,7 @@ use native.Mathlib.Decide.{ℕ_discrete}
 use mathlib.Core.Path.{◌≡◌, refl, sym, ap, ◌∙◌, subst}
 use mathlib.Core.Logic.{◌≢◌, dite}
 use mathlib.Core.Bool.{Bool, true, false}
-use mathlib.Core.Option.{none, some, Option}
+use Rattle.std.specs.Prelude.{Option, Some, None}
 use mathlib.Core.List.{List}
 use lib.ListN.{length, get_or}
 use lib.Dec.{eqb}
@@ -90,17 +90,17 @@ module _ (W : Ways) (m : Mem) (x : ℕ) (bad : Bool) (o : Outcome) where
 
   data Looks : Look → Type 0 where
     refusing : (n : ℕ) → asked_now W m x bad o ≡ refuse n → Looks (look.Refused n)
-    lacking : asked_now W m x bad o ≡ o → held Z m x ≡ none → Looks look.Absent
-    holding : (w : ℕ) → asked_now W m x bad o ≡ o → held Z m x ≡ some (place w) → w ≢ 0 → w ≡ own_word W m x → Looks (look.At w)
+    lacking : asked_now W m x bad o ≡ o → held Z m x ≡ None → Looks look.Absent
+    holding : (w : ℕ) → asked_now W m x bad o ≡ o → held Z m x ≡ Some (place w) → w ≢ 0 → w ≡ own_word W m x → Looks (look.At w)
 
   module _ (p : Passed W m x bad) where
     by_word : (w : ℕ) → w ≡ own_word W m x → asked_now W m x bad o ≡ o → Looks (look_word W w)
     by_word w e q =
         let there : held Z m x ≡ word_place w = held_word W m x p.lengths ∙ ap word_place (sym e) in
         dite (ℕ_discrete w 0)
-        (λ z. subst (λ b. Looks (choose b look.Absent (look.At w))) (sym (eq-eqb w 0 z)) (lacking q (there ∙ ap (λ b. choose b none (some (place w))) (eq-eqb w 0 z))))
+        (λ z. subst (λ b. Looks (choose b look.Absent (look.At w))) (sym (eq-eqb w 0 z)) (lacking q (there ∙ ap (λ b. choose b None (Some (place w))) (eq-eqb w 0 z))))
         λ nz. subst (λ b. Looks (choose b look.Absent (look.At w))) (sym (ne_eqb w 0 nz))
-        (holding w q (there ∙ ap (λ b. choose b none (some (place w))) (ne_eqb w 0 nz)) nz e)
+        (holding w q (there ∙ ap (λ b. choose b None (Some (place w))) (ne_eqb w 0 nz)) nz e)
 
     looks : Looks (look_of W m x)
     looks =
@@ -115,13 +115,13 @@ module _ (W : Ways) (m : Mem) (x : ℕ) (bad : Bool) (o : Outcome) where
   refused_by (lacking q h) e = let z : ◌≡◌ {A = ℕ} 0 1 = cc in absurd (omega arith)
   refused_by (holding w q h nz f) e = let z : ◌≡◌ {A = ℕ} 0 1 = cc in absurd (omega arith)
 
-  absent_by : {k : Look} → Looks k → k ≡ look.Absent → (asked_now W m x bad o ≡ o) × (held Z m x ≡ none)
+  absent_by : {k : Look} → Looks k → k ≡ look.Absent → (asked_now W m x bad o ≡ o) × (held Z m x ≡ None)
   absent_by (refusing n q) e = let z : ◌≡◌ {A = ℕ} 0 1 = cc in absurd (omega arith)
   absent_by (lacking q h) e = (q, h)
   absent_by (holding w q h nz f) e = let z : ◌≡◌ {A = ℕ} 0 1 = cc in absurd (omega arith)
 
   held_by : {k : Look} → Looks k → {w' : ℕ} → k ≡ look.At w'
-      → (asked_now W m x bad o ≡ o) × (held Z m x ≡ some (place w')) × (w' ≢ 0) × (w' ≡ own_word W m x)
+      → (asked_now W m x bad o ≡ o) × (held Z m x ≡ Some (place w')) × (w' ≢ 0) × (w' ≡ own_word W m x)
   held_by (refusing n q) e = let z : ◌≡◌ {A = ℕ} 0 1 = cc in absurd (omega arith)
   held_by (lacking q h) e = let z : ◌≡◌ {A = ℕ} 0 1 = cc in absurd (omega arith)
   held_by (holding w q h nz f) {w'} e = let g : w ≡ w' = cc in rw (← g) (q, h, nz, f)
@@ -131,11 +131,11 @@ module _ (W : Ways) (m : Mem) (x : ℕ) (bad : Bool) (o : Outcome) where
     pub look_refused : {n : ℕ} → r.look ≡ look.Refused n → asked_now W m x bad o ≡ refuse n
     look_refused e = refused_by (looks p) (sym l.look_is ∙ e)
 
-    pub look_lacks : r.look ≡ look.Absent → (asked_now W m x bad o ≡ o) × (held Z m x ≡ none)
+    pub look_lacks : r.look ≡ look.Absent → (asked_now W m x bad o ≡ o) × (held Z m x ≡ None)
     look_lacks e = absent_by (looks p) (sym l.look_is ∙ e)
 
     pub look_holds : {w : ℕ} → r.look ≡ look.At w
-        → (asked_now W m x bad o ≡ o) × (held Z m x ≡ some (place w)) × (w ≢ 0) × (w ≡ own_word W m x)
+        → (asked_now W m x bad o ≡ o) × (held Z m x ≡ Some (place w)) × (w ≢ 0) × (w ≡ own_word W m x)
     look_holds e = held_by (looks p) (sym l.look_is ∙ e)
 
 -- the same for a caller that looks at the words itself: what comes behind refusals 8 and 4 goes by the place where the animal is held
@@ -153,12 +153,12 @@ module _ (W : Ways) (m : Mem) (x : ℕ) (bad : Bool) (p : Passed W m x bad) (res
     seen_damaged e = look_refused W m x bad (rest (held (shape_of W m) m x)) p (look_damaged W m x hs odd calm words places damage e) refl
 
     module _ (sound : c ≡ false) {w : ℕ} (hit : w ≡ found_word (first (leads m.items h.tag x) ws)) where
-      pub seen_absent : w ≡ 0 → whole ≡ rest none
+      pub seen_absent : w ≡ 0 → whole ≡ rest None
       seen_absent z =
           let s = look_lacks W m x bad (rest (held (shape_of W m) m x)) p (look_absent W m x hs odd calm words places damage sound hit z) refl in
           s.0 ∙ ap rest s.1
 
-      pub seen_held : w ≢ 0 → whole ≡ rest (some (place w))
+      pub seen_held : w ≢ 0 → whole ≡ rest (Some (place w))
       seen_held nz =
           let s = look_holds W m x bad (rest (held (shape_of W m) m x)) p (look_at W m x hs odd calm words places damage sound hit nz) refl in
           s.0 ∙ ap rest s.1

@@ -4,7 +4,7 @@ use native.Mathlib.Omega.{arith}
 use mathlib.Core.Path.{◌≡◌, refl, sym, ap, ◌∙◌, ap₂}
 use mathlib.Core.Logic.{◌≢◌}
 use mathlib.Core.Bool.{Bool, true}
-use mathlib.Core.Option.{Option, none, some}
+use Rattle.std.specs.Prelude.{Option, Some, None}
 use mathlib.Core.List.{List, [], ◌∷◌, map}
 use lib.ListN.{length, get_or}
 use lib.Dec.{eqb}
@@ -21,22 +21,22 @@ use Rattle.hashing.specs.declared.Homes.{Homes}
 
 -- what is found among words is the word of what is found among slots
 unfoldable pub mapped : (ℕ → ℕ) → Option ℕ → Option ℕ
-mapped g none = none
-mapped g (some i) = some (g i)
+mapped g None = None
+mapped g (Some i) = Some (g i)
 
 first_map : (f : ℕ → Bool) (g : ℕ → ℕ) (is : List ℕ) → first f (map g is) ≡ mapped g (first (λ i. f (g i)) is)
 unfolding first mapped
 first_map f g [] = refl
-first_map f g (i ∷ is) = bool (λ b. choose b (some (g i)) (first f (map g is)) ≡ mapped g (choose b (some i) (first (λ i. f (g i)) is))) (f (g i)) (λ e. refl) λ e. first_map f g is
+first_map f g (i ∷ is) = bool (λ b. choose b (Some (g i)) (first f (map g is)) ≡ mapped g (choose b (Some i) (first (λ i. f (g i)) is))) (f (g i)) (λ e. refl) λ e. first_map f g is
 
 there_mapped : (g : ℕ → ℕ) (o : Option ℕ) → there (mapped g o) ≡ there o
 unfolding mapped
-there_mapped g none = refl
-there_mapped g (some i) = refl
+there_mapped g None = refl
+there_mapped g (Some i) = refl
 
 -- the place of a hit word, if there is one
 abbrev pub word_place : ℕ → Option ℕ
-word_place w = choose (eqb w 0) none (some (place w))
+word_place w = choose (eqb w 0) None (Some (place w))
 
 module _ (W : Ways) (m : Mem) (x : ℕ) where
   abbrev Y : Shape

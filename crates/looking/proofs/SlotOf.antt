@@ -3,7 +3,7 @@ use Prim.Native.Nat.{ℕ, ◌+◌, ◌*◌, ◌<◌, suc, ◌≤◌}
 use native.Mathlib.Omega.{arith}
 use mathlib.Core.Path.{◌≡◌, refl, sym, ap, ◌∙◌, ap₂}
 use mathlib.Core.Bool.{Bool}
-use mathlib.Core.Option.{Option, none, some}
+use Rattle.std.specs.Prelude.{Option, Some, None}
 use mathlib.Core.List.Memᴰ.{head}
 use mathlib.Core.List.Memᴰ.{tail}
 use mathlib.Core.List.{List, [], ◌∷◌, ◌++◌, Memᴰ as In}
@@ -23,18 +23,18 @@ four_slots_of a =
 
 -- the slot of a word, or another number
 abbrev or_first : Option ℕ → Option ℕ → Option ℕ
-or_first none o = o
-or_first (some i) o = some i
+or_first None o = o
+or_first (Some i) o = Some i
 
 first_append : (f : ℕ → Bool) (xs ys : List ℕ) → first f (xs ++ ys) ≡ or_first (first f xs) (first f ys)
 unfolding first
 first_append f [] ys = refl
 first_append f (x ∷ xs) ys =
-    bool (λ b. choose b (some x) (first f (xs ++ ys)) ≡ or_first (choose b (some x) (first f xs)) (first f ys)) (f x) (λ e. refl) λ e. first_append f xs ys
+    bool (λ b. choose b (Some x) (first f (xs ++ ys)) ≡ or_first (choose b (Some x) (first f xs)) (first f ys)) (f x) (λ e. refl) λ e. first_append f xs ys
 
 slot_or_first : (other : ℕ) (o o' : Option ℕ) → slot_or (slot_or other o') o ≡ slot_or other (or_first o o')
-slot_or_first other none o' = refl
-slot_or_first other (some i) o' = refl
+slot_or_first other None o' = refl
+slot_or_first other (Some i) o' = refl
 
 below_both : {L : ℕ} (xs ys : List ℕ) → ((i : ℕ) → In i xs → i < L) → ((i : ℕ) → In i ys → i < L) → (i : ℕ) → In i (xs ++ ys) → i < L
 below_both [] ys h h' i q = h' i q
@@ -47,7 +47,7 @@ module _ (T : List ℕ) (w : ℕ) where
 
   one_slot : (i other : ℕ) (is : List ℕ) → choose (has i) i (slot_or other (first has is)) ≡ slot_or other (first has (i ∷ is))
   unfolding first
-  one_slot i other is = bool (λ b. choose b i (slot_or other (first has is)) ≡ slot_or other (choose b (some i) (first has is))) (has i) (λ e. refl) λ e. refl
+  one_slot i other is = bool (λ b. choose b i (slot_or other (first has is)) ≡ slot_or other (choose b (Some i) (first has is))) (has i) (λ e. refl) λ e. refl
 
   no_slot : (other : ℕ) → other ≡ slot_or other (first has [])
   unfolding first
@@ -80,16 +80,16 @@ module _ (T : List ℕ) (w : ℕ) where
         below_both (range (near * 4) 4) (range (far * 4) 4) (λ i q. omega (arith, in_range (near * 4) 4 q))
         λ i q. omega (arith, in_range (far * 4) 4 q)
 
-    pub slot_nowhere : L ≤ r → none ≡ first has both
+    pub slot_nowhere : L ≤ r → None ≡ first has both
     slot_nowhere h = go (first_is has both) slot_is
       where
-        go : {o : Option ℕ} → First has both o → r ≡ slot_or L o → none ≡ o
+        go : {o : Option ℕ} → First has both o → r ≡ slot_or L o → None ≡ o
         go (missing h) e = refl
         go (found {i = i} q t) e = absurd (omega (arith, below i q))
 
-    pub slot_somewhere : r < L → some r ≡ first has both
+    pub slot_somewhere : r < L → Some r ≡ first has both
     slot_somewhere h = go (first_is has both) slot_is
       where
-        go : {o : Option ℕ} → First has both o → r ≡ slot_or L o → some r ≡ o
+        go : {o : Option ℕ} → First has both o → r ≡ slot_or L o → Some r ≡ o
         go (missing n) e = absurd (omega arith)
-        go (found {i = i} q t) e = ap some e
+        go (found {i = i} q t) e = ap Some e

@@ -1,6 +1,5 @@
 -- What every call about an animal looks at, on lent memory of any ways. Assumes nothing.
-use Rattle.std.specs.Prelude.{ℕ, ◌+◌, ◌*◌, ◌<◌, ◌≤◌, ◌≡◌, ◌≢◌, Bool, true, false, List, length, eqb}
-use Rattle.std.proofs.Math.Option.{Option, none, some}
+use Rattle.std.specs.Prelude.{ℕ, ◌+◌, ◌*◌, ◌<◌, ◌≤◌, ◌≡◌, ◌≢◌, Bool, true, false, List, length, eqb, Option, Some, None}
 use Rattle.model.specs.Choice.{choose, first}
 use Rattle.model.specs.Memory.{Mem}
 use Rattle.model.specs.Shape.{Ways, counter_of, right_lengths, second_of, shape_of}
@@ -64,10 +63,10 @@ module _ (W : Ways) where
 
 -- a slot that was found
 abbrev pub slot_found : Slot → Option ℕ
-slot_found (slot.At i) = some i
-slot_found slot.Nowhere = none
+slot_found (slot.At i) = Some i
+slot_found slot.Nowhere = None
 
 -- the slot that was found, or another number
 abbrev pub slot_or : ℕ → Option ℕ → ℕ
-slot_or other none = other
-slot_or other (some i) = i
+slot_or other None = other
+slot_or other (Some i) = i

@@ -4,7 +4,7 @@ use native.Mathlib.Omega.{arith}
 use mathlib.Core.Path.{◌≡◌, refl, sym, ap, ◌∙◌, subst}
 use mathlib.Core.Logic.{◌≢◌}
 use mathlib.Core.Bool.{true, false}
-use mathlib.Core.Option.{Option, none, some}
+use Rattle.std.specs.Prelude.{Option, Some, None}
 use mathlib.Core.List.{List, [], ◌∷◌, ◌++◌}
 use lib.ListN.{length, get_or, set, length-set}
 use lib.Dec.{eqb}
@@ -76,7 +76,7 @@ module _ (W : Ways) (m₀ : Mem) (right : right_lengths W m₀ ≡ true) (g : Gr
     alike : Alike W m₀ right m
     calm : busy Y m x ≡ false
     sound : home_damage Y m x ≡ false
-    away : held Y m x ≡ none
+    away : held Y m x ≡ None
 
   -- and of the final store
   record Final (T l : List ℕ) : Type 0 where
@@ -138,11 +138,11 @@ module _ (W : Ways) (m₀ : Mem) (right : right_lengths W m₀ ≡ true) (g : Gr
       ((d.0, back.0), back.1)
 
 -- the lowest vacant place lies among the places and is vacant
-vacant_there : (M : ℕ) (l : List ℕ) (p : ℕ) → vacant_place M l ≡ some p → (p < M) × (animal l p ≡ 0)
+vacant_there : (M : ℕ) (l : List ℕ) (p : ℕ) → vacant_place M l ≡ Some p → (p < M) × (animal l p ≡ 0)
 unfolding vacant_place
 vacant_there M l p e = go (first_is (λ q. eqb (animal l q) 0) (range 0 M)) e
   where
-    go : {o : Option ℕ} → First (λ q. eqb (animal l q) 0) (range 0 M) o → o ≡ some p → (p < M) × (animal l p ≡ 0)
+    go : {o : Option ℕ} → First (λ q. eqb (animal l q) 0) (range 0 M) o → o ≡ Some p → (p < M) × (animal l p ≡ 0)
     go (found {i = k} q t) e = let f : k ≡ p = cc in (rw (← f) (omega (arith, in_range 0 M q)), rw (← f) (eqb-true (animal l k) 0 t))
     go (missing h) e = true_false {b = true} refl (ap there (sym e))
 

@@ -7,7 +7,7 @@ use native.Mathlib.Decide.{ℕ_discrete, dec_lt}
 use mathlib.Core.Path.{◌≡◌, refl, sym, ap, ◌∙◌}
 use mathlib.Core.Logic.{◌≢◌, ◌⊎◌, inl, inr, dite}
 use mathlib.Core.Bool.{Bool, true, false, not, ◌&&◌, ◌||◌}
-use mathlib.Core.Option.{Option, none, some}
+use Rattle.std.specs.Prelude.{Option, Some, None}
 use mathlib.Core.List.{List, [], ◌∷◌}
 use lib.ListN.{length, set, length-set}
 use lib.Seq.{get_or-set_same, get_or-set_other}
@@ -62,8 +62,8 @@ passed_live M l (suc k) h =
 
 -- what is known of what the search found: its victim is a live place below M, and it looked at more than n places
 pub data Sought (M : ℕ) (l : List ℕ) (n : ℕ) : Option Victim → Type 0 where
-  nobody : Sought M l n none
-  somebody : {v : Victim} → v.place < M → Live l v.place → n < v.looked → Sought M l n (some v)
+  nobody : Sought M l n None
+  somebody : {v : Victim} → v.place < M → Live l v.place → n < v.looked → Sought M l n (Some v)
 
 earlier : {M n : ℕ} {l : List ℕ} {o : Option Victim} → Sought M l (n + 1) o → Sought M l n o
 earlier nobody = nobody
@@ -73,7 +73,7 @@ pub sought : (M : ℕ) (l : List ℕ) (f h n : ℕ) → h < M → Sought M l n (
 unfolding seek_victim
 sought M l zero h n hm = nobody
 sought M l (suc f) h n hm =
-    bool (λ b. Sought M l n (choose b (some (record { place = h; looked = n + 1 })) (seek_victim M l f (next_hand M h) (n + 1))))
+    bool (λ b. Sought M l n (choose b (Some (record { place = h; looked = n + 1 })) (seek_victim M l f (next_hand M h) (n + 1))))
     (takes (live l h) (is_recent l h) (leb M n))
     (λ e. somebody {v = record { place = h; looked = n + 1 }} hm
     (live_is l h (both_true (live l h) (not (is_recent l h) || leb M n) e)) (omega arith))
@@ -82,13 +82,13 @@ sought M l (suc f) h n hm =
 -- refusal 10 can't come: in the second turn every live place is taken
 module _ (M : ℕ) (l : List ℕ) where
   abbrev Lost : ℕ → ℕ → ℕ → Type 0
-  Lost f h n = seek_victim M l f h n ≡ none
+  Lost f h n = seek_victim M l f h n ≡ None
 
-  passes : (a r s : Bool) (v : Victim) (o : Option Victim) → choose (takes a r s) (some v) o ≡ none → (o ≡ none) × (s ≡ true → a ≡ false)
+  passes : (a r s : Bool) (v : Victim) (o : Option Victim) → choose (takes a r s) (Some v) o ≡ None → (o ≡ None) × (s ≡ true → a ≡ false)
   passes false r s v o e = (e, λ q. refl)
   passes true r true v o e = never r e
     where
-      never : (r : Bool) → choose (takes true r true) (some v) o ≡ none → (o ≡ none) × (true ≡ true → true ≡ false)
+      never : (r : Bool) → choose (takes true r true) (Some v) o ≡ None → (o ≡ None) × (true ≡ true → true ≡ false)
       never true e = let z : ◌≡◌ {A = ℕ} 0 1 = cc in absurd (omega arith)
       never false e = let z : ◌≡◌ {A = ℕ} 0 1 = cc in absurd (omega arith)
   passes true true false v o e = (e, λ q. sym q)
@@ -124,7 +124,7 @@ module _ (M : ℕ) (l : List ℕ) where
       (r.0, r.1, rw (p, q) r.2)
 
   -- with a live place a victim is found within 2M places looked at, on any item words
-  pub always_victim : (hand q : ℕ) → hand < M → q < M → Live l q → victim M l hand ≢ none
+  pub always_victim : (hand q : ℕ) → hand < M → q < M → Live l q → victim M l hand ≢ None
   always_victim hand q hm qm lv e =
       let r = skip M (2 * M) hand 0 (omega arith) hm e in
       let n : 0 + M ≡ M = omega arith in
@@ -235,9 +235,9 @@ or_true false = refl
 module _ (M : ℕ) (t₀ : List ℕ) where
   -- the row's turn from the words t on, where n places were looked at before: it clears what is passed in the first turn
   abbrev turned : ℕ → ℕ → List ℕ → Option Victim → Option Turn
-  turned h n t none = none
-  turned h n t (some v) =
-      some
+  turned h n t None = None
+  turned h n t (Some v) =
+      Some
       (record { words = rub t (passed_recent M t₀ (min (v.looked - (n + 1)) (M - n)) h); victim = v.place; looked = v.looked })
 
   one_more : (h n l : ℕ) → n < M → n + 1 < l
@@ -254,7 +254,7 @@ module _ (M : ℕ) (t₀ : List ℕ) where
     -- a vacant place changes nothing
     over_vacant : animal t₀ h ≡ 0 → {o : Option Victim} → Sought M t₀ (n + 1) o → turned h n t o ≡ turned (next_hand M h) (n + 1) t o
     over_vacant z nobody = refl
-    over_vacant z (somebody {v = v} i lv k) = ap (λ ps. some (record { words = rub t ps; victim = v.place; looked = v.looked })) same
+    over_vacant z (somebody {v = v} i lv k) = ap (λ ps. Some (record { words = rub t ps; victim = v.place; looked = v.looked })) same
       where
         same : passed_recent M t₀ (min (v.looked - (n + 1)) (M - n)) h
             ≡ passed_recent M t₀ (min (v.looked - (n + 1 + 1)) (M - (n + 1))) (next_hand M h)
@@ -268,7 +268,7 @@ module _ (M : ℕ) (t₀ : List ℕ) where
         → turned h n t o ≡ turned (next_hand M h) (n + 1) (set t (4 * h + 3) 0) o
     over_recent q a r nobody = refl
     over_recent q a r (somebody {v = v} i lv k) =
-        ap (λ ps. some (record { words = rub t ps; victim = v.place; looked = v.looked })) same
+        ap (λ ps. Some (record { words = rub t ps; victim = v.place; looked = v.looked })) same
       where
         same : passed_recent M t₀ (min (v.looked - (n + 1)) (M - n)) h
             ≡ h ∷ passed_recent M t₀ (min (v.looked - (n + 1 + 1)) (M - (n + 1))) (next_hand M h)
@@ -302,8 +302,8 @@ module _ (M : ℕ) (t₀ : List ℕ) where
 
   -- what the row's turn comes to
   abbrev pub row_turned : ℕ → Option Victim → Option Turn
-  row_turned h none = none
-  row_turned h (some v) = some (record { words = rub t₀ (clears M t₀ h v); victim = v.place; looked = v.looked })
+  row_turned h None = None
+  row_turned h (Some v) = Some (record { words = rub t₀ (clears M t₀ h v); victim = v.place; looked = v.looked })
 
   pub row_clock_is : (h : ℕ) → h < M → length t₀ ≡ 4 * M → row_clock M t₀ (2 * M) h 0 ≡ row_turned h (victim M t₀ h)
   row_clock_is h hm l = row_turn (2 * M) h 0 t₀ hm (rw sub-zero start) ∙ tidy (victim M t₀ h)
@@ -320,7 +320,7 @@ module _ (M : ℕ) (t₀ : List ℕ) where
           }
 
       tidy : (o : Option Victim) → turned h 0 t₀ o ≡ row_turned h o
-      tidy none = refl
-      tidy (some v) =
+      tidy None = refl
+      tidy (Some v) =
           let e : min (v.looked - (0 + 1)) (M - 0) ≡ min (v.looked - 1) M = omega arith in
-          ap (λ k. some (record { words = rub t₀ (passed_recent M t₀ k h); victim = v.place; looked = v.looked })) e
+          ap (λ k. Some (record { words = rub t₀ (passed_recent M t₀ k h); victim = v.place; looked = v.looked })) e

@@ -3,7 +3,7 @@ use Prim.Native.Nat.{ℕ, ◌*◌, ◌<◌}
 use native.Mathlib.Omega.{arith}
 use mathlib.Core.Path.{◌≡◌, refl, ap, ◌∙◌, subst}
 use mathlib.Core.Bool.{Bool, true, false}
-use mathlib.Core.Option.{Option, none, some}
+use Rattle.std.specs.Prelude.{Option, Some, None}
 use mathlib.Core.List.{List, [], ◌∷◌}
 use lib.ListN.{length, take}
 use lib.Seq.{take-nil}
@@ -54,8 +54,8 @@ told : (o : Outcome) → is_refusal o.answer ≡ false → Clean o
 told o f n e = true_false (ap is_refusal e) f
 
 pub judged : (l : List ℕ) (limit now : ℕ) (o : Option ℕ) → is_refusal (judge l limit now o) ≡ false
-judged l limit now none = refl
-judged l limit now (some p) = of_verdict limit now (permission l p) (stamp l p) (λ a. is_refusal a ≡ false) (λ z. refl) (λ z. refl) refl
+judged l limit now None = refl
+judged l limit now (Some p) = of_verdict limit now (permission l p) (stamp l p) (λ a. is_refusal a ≡ false) (λ z. refl) (λ z. refl) refl
 
 module _ (Y : Shape) (m : Mem) where
   asks : (x : ℕ) (bad : Bool) (o : Outcome) → Clean o → Clean (asked Y m x bad o)
@@ -64,44 +64,44 @@ module _ (Y : Shape) (m : Mem) where
       (one_by_one (busy Y m x) (refusal 8 refl) (one_by_one (home_damage Y m x) (refusal 4 refl) c)))
 
   serves : (limit now : ℕ) (o : Option ℕ) → Clean (serve_at Y m limit now o)
-  serves limit now none = told (tell absent) refl
-  serves limit now (some p) = told (serve_at Y m limit now (some p)) (judged m.items limit now (some p))
+  serves limit now None = told (tell absent) refl
+  serves limit now (Some p) = told (serve_at Y m limit now (Some p)) (judged m.items limit now (Some p))
 
   finds : (o : Option ℕ) → Clean (tell (find_at o))
-  finds none = told (tell absent) refl
-  finds (some p) = told (tell (at_place p)) refl
+  finds None = told (tell absent) refl
+  finds (Some p) = told (tell (at_place p)) refl
 
   enters : (g : Grant) (o : Option ℕ) → Clean (enter_at Y m g o)
-  enters g none = refusal 5 refl
-  enters g (some p) =
+  enters g None = refusal 5 refl
+  enters g (Some p) =
       one_by_one (search_damage Y m g.animal) (refusal 4 refl)
       (one_by_one (eqb (stopped Y m g.animal) (length (visited Y m g.animal))) (refusal 6 refl) λ n e. true_false (ap is_refusal e) refl)
 
   sets : (g : Grant) (o : Option ℕ) → Clean (set_at Y m g o)
-  sets g none = enters g (vacant_place Y.places m.items)
-  sets g (some p) = one_by_one (late (stamp m.items p) g) (refusal 11 refl) λ n e. true_false (ap is_refusal e) refl
+  sets g None = enters g (vacant_place Y.places m.items)
+  sets g (Some p) = one_by_one (late (stamp m.items p) g) (refusal 11 refl) λ n e. true_false (ap is_refusal e) refl
 
   plans_new : (x : ℕ) (o : Option ℕ) → Clean (plan_new Y m x o)
-  plans_new x none = refusal 5 refl
-  plans_new x (some p) =
+  plans_new x None = refusal 5 refl
+  plans_new x (Some p) =
       one_by_one (search_damage Y m x) (refusal 4 refl)
       (one_by_one (eqb (stopped Y m x) (length (visited Y m x))) (refusal 6 refl) λ n e. true_false (ap is_refusal e) refl)
 
   plans : (x : ℕ) (o : Option ℕ) → Clean (plan_at Y m x o)
-  plans x none = plans_new x (vacant_place Y.places m.items)
-  plans x (some p) = refusal 12 refl
+  plans x None = plans_new x (vacant_place Y.places m.items)
+  plans x (Some p) = refusal 12 refl
 
   deletes : (x : ℕ) (o : Option ℕ) → Clean (delete_at Y m x o)
-  deletes x none = refusal 7 refl
-  deletes x (some i) = λ n e. true_false (ap is_refusal e) refl
+  deletes x None = refusal 7 refl
+  deletes x (Some i) = λ n e. true_false (ap is_refusal e) refl
 
   evict_slots : (hand : ℕ) (v : Victim) (x : ℕ) (o : Option ℕ) → Clean (evict_slot Y m hand v x o)
-  evict_slots hand v x none = refusal 4 refl
-  evict_slots hand v x (some i) = λ n e. true_false (ap is_refusal e) refl
+  evict_slots hand v x None = refusal 4 refl
+  evict_slots hand v x (Some i) = λ n e. true_false (ap is_refusal e) refl
 
   evicts : (hand : ℕ) (o : Option Victim) → Clean (evict_at Y m hand o)
-  evicts hand none = refusal 10 refl
-  evicts hand (some v) =
+  evicts hand None = refusal 10 refl
+  evicts hand (Some v) =
       let x = animal m.items v.place in
       one_by_one (busy Y m x) (refusal 8 refl)
       (one_by_one (home_damage Y m x) (refusal 4 refl) (evict_slots hand v x (slot_of Y m x v.place)))
@@ -172,11 +172,11 @@ listed_small n (k ∷ ks) e s =
     (λ t q f. let z : n ≡ k = eqb-true n k q in small_first (leb 65536 k) refl s z)
     (λ t q f. listed_small n ks f (small_rest (leb 65536 k) s)) refl e
   where
-    small_first : (b : Bool) → leb 65536 k ≡ b → there (choose b (some k) (first (leb 65536) ks)) ≡ false → n ≡ k → n < 65536
+    small_first : (b : Bool) → leb 65536 k ≡ b → there (choose b (Some k) (first (leb 65536) ks)) ≡ false → n ≡ k → n < 65536
     small_first true q s z = true_false {b = true} refl s
     small_first false q s z = rw z (leb-false 65536 k q)
 
-    small_rest : (b : Bool) → there (choose b (some k) (first (leb 65536) ks)) ≡ false → any (leb 65536) ks ≡ false
+    small_rest : (b : Bool) → there (choose b (Some k) (first (leb 65536) ks)) ≡ false → any (leb 65536) ks ≡ false
     small_rest true s = true_false {b = true} refl s
     small_rest false s = s
 

@@ -5,7 +5,7 @@ use native.Mathlib.Decide.{ℕ_discrete, dec_le, dec_lt}
 use mathlib.Core.Path.{◌≡◌, refl, sym, subst, ◌∙◌}
 use mathlib.Core.Logic.{dite}
 use mathlib.Core.Bool.{Bool, true, false}
-use mathlib.Core.Option.{Option, none, some, none-ne-some}
+use Rattle.std.specs.Prelude.{Option, Some, None}
 use mathlib.Core.List.{List}
 use lib.IntN.{ℤ}
 use lib.Signed.{clash_ℤ}
@@ -25,8 +25,8 @@ use Rattle.model.proofs.Verdict.{says_ahead, says_old, says_retired, says_young}
 use Rattle.model.proofs.Runs.{serve_reads}
 
 -- an answer without a number
-pub untold : (limit : ℕ) (a : Answer) → (paper a).signed ≡ none → TellsTime limit a
-untold limit a n z e = absurd (none-ne-some z (sym n ∙ e))
+pub untold : (limit : ℕ) (a : Answer) → (paper a).signed ≡ None → TellsTime limit a
+untold limit a n z e = let q : ◌≡◌ {A = Option ℤ} None (Some z) = sym n ∙ e in cc
 
 module _ (limit : ℕ) where
   told_fresh : (v a : ℕ) → a ≤ limit → TellsTime limit (fresh v (left_of limit a))
@@ -61,8 +61,8 @@ module _ (limit : ℕ) where
 
   -- whatever place was found
   pub judge_timely : (l : List ℕ) (now : ℕ) (o : Option ℕ) → TellsTime limit (judge l limit now o)
-  judge_timely l now none = untold limit absent refl
-  judge_timely l now (some p) = verdict_timely now (permission l p) (stamp l p)
+  judge_timely l now None = untold limit absent refl
+  judge_timely l now (Some p) = verdict_timely now (permission l p) (stamp l p)
 
   pub refusal_untold : (n : ℕ) → TellsTime limit (refused n)
   refusal_untold n = untold limit (refused n) refl

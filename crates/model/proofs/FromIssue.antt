@@ -4,7 +4,7 @@ use native.Mathlib.Omega.{arith}
 use mathlib.Core.Path.{◌≡◌, refl, sym, ap, ◌∙◌, subst, ap₂}
 use mathlib.Core.Logic.{◌≢◌}
 use mathlib.Core.Bool.{Bool, true, false}
-use mathlib.Core.Option.{Option, some}
+use Rattle.std.specs.Prelude.{Option, Some}
 use mathlib.Core.List.{List, []}
 use lib.ListN.{length}
 use lib.IntN.{ℤ}
@@ -72,14 +72,14 @@ module _ (M told : ℕ) (l : List ℕ) (g : Grant) (long : length l ≡ 4 * M) w
 
 -- in a well-formed table the walk comes to the place that holds the animal
 pub walk_there : (Y : Shape) (m : Mem) → WellFormed Y m → (x : ℕ) → x ≢ 0 → (p : ℕ) → animal m.items p ≡ x
-    → {o : Option ℕ} → First (λ q. eqb (animal m.items q) x) (range 0 Y.places) o → o ≡ some p
+    → {o : Option ℕ} → First (λ q. eqb (animal m.items q) x) (range 0 Y.places) o → o ≡ Some p
 walk_there Y m w x nz p e (found {i = i} r t) =
-    let f = eqb-true (animal m.items i) x t in ap some (w.distinct i p (rw f nz) (f ∙ sym e))
+    let f = eqb-true (animal m.items i) x t in ap Some (w.distinct i p (rw f nz) (f ∙ sym e))
 walk_there Y m w x nz p e (missing h) =
     true_false (eq-eqb (animal m.items p) x e) (h p (range_in 0 Y.places (omega arith) (omega (arith, live_in Y w p (rw e nz)))))
 
 -- a read of the row with good inputs, where its walk came to place p
-row_told : (M : ℕ) (l : List ℕ) (x limit now p : ℕ) → x ≢ 0 → limit ≤ 10080 → now ≢ no_minute → walk_to l x M 0 ≡ some p
+row_told : (M : ℕ) (l : List ℕ) (x limit now p : ℕ) → x ≢ 0 → limit ≤ 10080 → now ≢ no_minute → walk_to l x M 0 ≡ Some p
     → (row_call M 0 l (read x limit now)).answer ≡ row_says limit now (permission l p) (stamp l p)
 row_told M l x limit now p nz lim min there =
     let good : row_bad_time M limit now ≡ false = rw (le-ltb 10080 limit lim, ne_eqb now no_minute min) in

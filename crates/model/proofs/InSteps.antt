@@ -4,7 +4,7 @@ use native.Mathlib.Omega.{arith}
 use mathlib.Core.Path.{◌≡◌, refl, sym, ap, ◌∙◌, subst}
 use mathlib.Core.Logic.{◌≢◌, ◌↔◌, ⊎_elim}
 use mathlib.Core.Bool.{Bool, true, false}
-use mathlib.Core.Option.{Option, none, some}
+use Rattle.std.specs.Prelude.{Option, Some, None}
 use mathlib.Core.List.{List, [], ◌∷◌}
 use lib.ListN.{length}
 use lib.Dec.{eqb}
@@ -156,15 +156,15 @@ module _ (W : Ways) (m : Mem) (g : Grant) where
   -- what a plan was made of
   pub record AsFound (vs : List MoveRecord) (p i : ℕ) : Type 0 where
     pub turn : ItsTurn W m g
-    pub away : held Z m y ≡ none
-    pub place_is : vacant_place Z.places m.items ≡ some p
+    pub away : held Z m y ≡ None
+    pub place_is : vacant_place Z.places m.items ≡ Some p
     pub undamaged : search_damage Z m y ≡ false
     pub room : stopped Z m y ≢ length (visited Z m y)
     pub moves_are : vs ≡ records_of m.slots (moves_found Z m y)
     pub slot_is : i ≡ final_slot Z m y
 
   -- a plan or a stored set of an animal that is not held: a vacant place, no damage on the way, and room
-  module _ (t : ItsTurn W m g) (away : held Z m y ≡ none) (p : ℕ) (vacant : vacant_place Z.places m.items ≡ some p)
+  module _ (t : ItsTurn W m g) (away : held Z m y ≡ None) (p : ℕ) (vacant : vacant_place Z.places m.items ≡ Some p)
       (undamaged : search_damage Z m y ≡ false) (room : at_end ≡ false) where
     plan_there : lent_call W m (plan_set g) ≡ found_plan p
     plan_there =
@@ -178,11 +178,11 @@ module _ (W : Ways) (m : Mem) (g : Grant) where
 
   -- plan_new and enter-at alike: 5 for no vacant place, 4, 6, and then `last`. Where that is no refusal, these hold
   module _ (a : Answer) (last : ℕ → Outcome) (no_refusal : is_refusal a ≡ false) (at_place : Option ℕ → Outcome)
-      (five : at_place none ≡ refuse 5)
-      (search : (p : ℕ) → at_place (some p) ≡ choose (search_damage Z m y) (refuse 4) (choose at_end (refuse 6) (last p))) where
+      (five : at_place None ≡ refuse 5)
+      (search : (p : ℕ) → at_place (Some p) ≡ choose (search_damage Z m y) (refuse 4) (choose at_end (refuse 6) (last p))) where
     record Reached : Type 0 where
       at : ℕ
-      vacant : vacant_place Z.places m.items ≡ some at
+      vacant : vacant_place Z.places m.items ≡ Some at
       undamaged : search_damage Z m y ≡ false
       room : at_end ≡ false
       told : (last at).answer ≡ a
@@ -190,19 +190,19 @@ module _ (W : Ways) (m : Mem) (g : Grant) where
     reached : (at_place (vacant_place Z.places m.items)).answer ≡ a → Reached
     reached e = by_place (vacant_place Z.places m.items) refl e
       where
-        by_tests : (p : ℕ) → vacant_place Z.places m.items ≡ some p → (b c : Bool) → search_damage Z m y ≡ b → at_end ≡ c
+        by_tests : (p : ℕ) → vacant_place Z.places m.items ≡ Some p → (b c : Bool) → search_damage Z m y ≡ b → at_end ≡ c
             → (choose b (refuse 4) (choose c (refuse 6) (last p))).answer ≡ a → Reached
         by_tests p f true c d r e = differs no_refusal 4 e
         by_tests p f false true d r e = differs no_refusal 6 e
         by_tests p f false false d r e = record { at = p; vacant = f; undamaged = d; room = r; told = e }
 
         by_place : (o : Option ℕ) → vacant_place Z.places m.items ≡ o → (at_place o).answer ≡ a → Reached
-        by_place none f e = differs no_refusal 5 (sym (ap (λ (o : Outcome). o.answer) five) ∙ e)
-        by_place (some p) f e = by_tests p f (search_damage Z m y) at_end refl refl (sym (ap (λ (o : Outcome). o.answer) (search p)) ∙ e)
+        by_place None f e = differs no_refusal 5 (sym (ap (λ (o : Outcome). o.answer) five) ∙ e)
+        by_place (Some p) f e = by_tests p f (search_damage Z m y) at_end refl refl (sym (ap (λ (o : Outcome). o.answer) (search p)) ∙ e)
 
   -- a plan of a held animal is 12
-  held_refused : (o : Option ℕ) → (plan_at Z m y o).answer ≡ refused 12 → (p : ℕ) × (o ≡ some p)
-  held_refused none e = other (vacant_place Z.places m.items) e
+  held_refused : (o : Option ℕ) → (plan_at Z m y o).answer ≡ refused 12 → (p : ℕ) × (o ≡ Some p)
+  held_refused None e = other (vacant_place Z.places m.items) e
     where
       by_tests : (p : ℕ) (b c : Bool) → (choose b (refuse 4) (choose c (refuse 6) (found_plan p))).answer ≡ refused 12 → ⊥
       by_tests p true c e = let z : ◌≡◌ {A = ℕ} 4 12 = cc in absurd (omega arith)
@@ -210,9 +210,9 @@ module _ (W : Ways) (m : Mem) (g : Grant) where
       by_tests p false false e = differs refl 12 (sym e)
 
       other : {A : Type 0} (o : Option ℕ) → (plan_new Z m y o).answer ≡ refused 12 → A
-      other none e = let z : ◌≡◌ {A = ℕ} 5 12 = cc in absurd (omega arith)
-      other (some p) e = absurd (by_tests p (search_damage Z m y) at_end e)
-  held_refused (some p) e = (p, refl)
+      other None e = let z : ◌≡◌ {A = ℕ} 5 12 = cc in absurd (omega arith)
+      other (Some p) e = absurd (by_tests p (search_damage Z m y) at_end e)
+  held_refused (Some p) e = (p, refl)
 
   pub as_found : (vs : List MoveRecord) (p i : ℕ) → plan_answer W m g ≡ planned vs p i → AsFound vs p i
   as_found vs p i e =
@@ -220,15 +220,15 @@ module _ (W : Ways) (m : Mem) (g : Grant) where
       by_held t.0 (held Z m y) refl (sym (ap (λ (o : Outcome). o.answer) t.1) ∙ e)
     where
       by_held : ItsTurn W m g → (o : Option ℕ) → held Z m y ≡ o → (plan_at Z m y o).answer ≡ planned vs p i → AsFound vs p i
-      by_held t (some q) h f = differs refl 12 f
-      by_held t none h f =
+      by_held t (Some q) h f = differs refl 12 f
+      by_held t None h f =
           let r = reached (planned vs p i) found_plan refl (plan_new Z m y) refl (λ q. refl) f in
           let said : planned (records_of m.slots (moves_found Z m y)) r.at (final_slot Z m y) ≡ planned vs p i = r.told in
           let q : r.at ≡ p = cc in
           record {
             turn = t;
             away = h;
-            place_is = r.vacant ∙ ap some q;
+            place_is = r.vacant ∙ ap Some q;
             undamaged = r.undamaged;
             room = eqb-false (stopped Z m y) (length (visited Z m y)) r.room;
             moves_are = cc;
@@ -273,8 +273,8 @@ module _ (W : Ways) (m : Mem) (g : Grant) where
       }
     where
       new_alike : (o : Option ℕ) → Alike (plan_new Z m y o) (enter_at Z m g o)
-      new_alike none = λ n. (λ e. e, λ e. e)
-      new_alike (some p) =
+      new_alike None = λ n. (λ e. e, λ e. e)
+      new_alike (Some p) =
           both_alike (search_damage Z m y) (refuse 4) (choose at_end (refuse 6) (found_plan p)) (choose at_end (refuse 6) (entered Z m g p))
           (both_alike at_end (refuse 6) (found_plan p) (entered Z m g p) λ n. (λ e. differs refl n (sym e), λ e. differs refl n (sym e)))
 
@@ -291,14 +291,14 @@ module _ (W : Ways) (m : Mem) (g : Grant) where
       ⊎_elim (λ (k, h, e). ap (λ (o : Outcome). o.blocks) e) (λ (t, e). ap (λ (o : Outcome). o.blocks) e ∙ by_held (held Z m y)) (sorted W m g plan_rest)
     where
       by_place : (o : Option ℕ) → (plan_new Z m y o).blocks ≡ []
-      by_place none = refl
-      by_place (some p) =
+      by_place None = refl
+      by_place (Some p) =
           bool (λ b. (choose b (refuse 4) (choose at_end (refuse 6) (found_plan p))).blocks ≡ []) (search_damage Z m y) (λ z. refl)
           λ z. bool (λ b. (choose b (refuse 6) (found_plan p)).blocks ≡ []) at_end (λ z. refl) λ z. refl
 
       by_held : (o : Option ℕ) → (plan_at Z m y o).blocks ≡ []
-      by_held none = by_place (vacant_place Z.places m.items)
-      by_held (some p) = refl
+      by_held None = by_place (vacant_place Z.places m.items)
+      by_held (Some p) = refl
 
 pub plan_quiet : (W : Ways) → PlanQuiet (ours W)
 unfolding stores

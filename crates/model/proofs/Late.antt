@@ -5,7 +5,7 @@ use native.Mathlib.Decide.{dec_lt}
 use mathlib.Core.Path.{◌≡◌, refl, sym, ap, ◌∙◌}
 use mathlib.Core.Logic.{◌≢◌, ◌⊎◌, inl, inr, ⊎_elim, dite}
 use mathlib.Core.Bool.{Bool, true, false, not, ◌&&◌}
-use mathlib.Core.Option.{Option, none, some}
+use Rattle.std.specs.Prelude.{Option, Some, None}
 use mathlib.Core.List.{List}
 use lib.ListN.{length, set, length-set, get_or-eq_default}
 use lib.Seq.{get_or-set_same, get_or-set_other}
@@ -54,8 +54,8 @@ module _ (W : Ways) (m : Mem) (g : Grant) where
 
   -- 11 is given to a held animal only
   new_other : (o : Option ℕ) → (enter_at Y m g o).answer ≢ refused 11
-  new_other none e = let z : ◌≡◌ {A = ℕ} 5 11 = cc in absurd (omega arith)
-  new_other (some p) e = go (search_damage Y m x) (eqb (stopped Y m x) (length (visited Y m x))) e
+  new_other None e = let z : ◌≡◌ {A = ℕ} 5 11 = cc in absurd (omega arith)
+  new_other (Some p) e = go (search_damage Y m x) (eqb (stopped Y m x) (length (visited Y m x))) e
     where
       go : (b c : Bool) → (choose b (refuse 4) (choose c (refuse 6) (entered Y m g p))).answer ≢ refused 11
       go true c e = let z : ◌≡◌ {A = ℕ} 4 11 = cc in absurd (omega arith)
@@ -63,8 +63,8 @@ module _ (W : Ways) (m : Mem) (g : Grant) where
       go false false e = let z : ◌≡◌ {A = ℕ} 0 1 = cc in absurd (omega arith)
 
   held_late : (o : Option ℕ) → held Y m x ≡ o → (set_at Y m g o).answer ≡ refused 11 → (p : ℕ) × Dated W m g p × (g.issued < stamp m.items p)
-  held_late none h e = absurd (new_other (vacant_place Y.places m.items) e)
-  held_late (some p) h e =
+  held_late None h e = absurd (new_other (vacant_place Y.places m.items) e)
+  held_late (Some p) h e =
       bool (λ b. late (stamp m.items p) g ≡ b → (choose b (refuse 11) (updated (counter_of Y x) p g)).answer ≡ refused 11
       → (p : ℕ) × Dated W m g p × (g.issued < stamp m.items p)) (late (stamp m.items p) g)
       (λ t q e. let k = late_only (stamp m.items p) g q in (p, record { held_at = h; entry = k.1 }, k.0))

@@ -5,7 +5,7 @@ use native.Mathlib.Decide.{ℕ_discrete, dec_lt}
 use mathlib.Core.Path.{◌≡◌, refl, sym, ap, ◌∙◌}
 use mathlib.Core.Logic.{◌≢◌, ◌⊎◌, inl, inr, dite}
 use mathlib.Core.Bool.{Bool, true, false}
-use mathlib.Core.Option.{Option, none, some}
+use Rattle.std.specs.Prelude.{Option, Some, None}
 use mathlib.Core.List.Memᴰ.{head}
 use mathlib.Core.List.Memᴰ.{not-nil}
 use mathlib.Core.List.Memᴰ.{tail}
@@ -53,8 +53,8 @@ both_no a b c d n =
 
 -- what `first` gives
 pub data First (f : ℕ → Bool) (l : List ℕ) : Option ℕ → Type 0 where
-  found : {i : ℕ} → In i l → f i ≡ true → First f l (some i)
-  missing : ((i : ℕ) → In i l → f i ≡ false) → First f l none
+  found : {i : ℕ} → In i l → f i ≡ true → First f l (Some i)
+  missing : ((i : ℕ) → In i l → f i ≡ false) → First f l None
 
 later : {f : ℕ → Bool} {i : ℕ} {l : List ℕ} {o : Option ℕ} → f i ≡ false → First f l o → First f (i ∷ l) o
 later e (found q t) = found (tail q) t
@@ -68,7 +68,7 @@ pub first_is : (f : ℕ → Bool) (l : List ℕ) → First f l (first f l)
 unfolding first
 first_is f [] = missing (λ i q. absurd (not-nil q))
 first_is f (i ∷ l) =
-    bool (λ b. First f (i ∷ l) (choose b (some i) (first f l))) (f i) (λ e. found (head refl) e) λ e. later e (first_is f l)
+    bool (λ b. First f (i ∷ l) (choose b (Some i) (first f l))) (f i) (λ e. found (head refl) e) λ e. later e (first_is f l)
 
 pub first_same : (f g : ℕ → Bool) → ((i : ℕ) → f i ≡ g i) → (l : List ℕ) → first f l ≡ first g l
 unfolding first
@@ -97,7 +97,7 @@ take_past xs ys k h = let e : k ≡ length xs + (k - length xs) = omega arith in
 pub walk_first : (l : List ℕ) (x n p : ℕ) → walk_to l x n p ≡ first (λ q. eqb (animal l q) x) (range p n)
 unfolding walk_to first range
 walk_first l x zero p = refl
-walk_first l x (suc n) p = ap (choose (eqb (animal l p) x) (some p)) (walk_first l x n (suc p))
+walk_first l x (suc n) p = ap (choose (eqb (animal l p) x) (Some p)) (walk_first l x n (suc p))
 
 pub walk_is : (l : List ℕ) (x n p : ℕ) → First (λ q. eqb (animal l q) x) (range p n) (walk_to l x n p)
 walk_is l x n p = rw (walk_first l x n p) (first_is (λ q. eqb (animal l q) x) (range p n))

@@ -3,7 +3,7 @@ use Prim.Native.Nat.{ℕ}
 use mathlib.Core.Path.{◌≡◌, refl, ap}
 use mathlib.Core.Logic.{inl, inr}
 use mathlib.Core.Bool.{Bool, true, false, not}
-use mathlib.Core.Option.{Option, none, some}
+use Rattle.std.specs.Prelude.{Option, Some, None}
 use mathlib.Core.List.{List}
 use lib.ListN.{length, get_or}
 use lib.Dec.{eqb, ltb}
@@ -18,9 +18,9 @@ use Rattle.model.specs.declared.MoveRecord.{MoveRecord}
 use Rattle.model.proofs.ListLaws.{bool, true_false}
 use Rattle.model.proofs.Lent.{and_is}
 
-not_there : (o : Option ℕ) → there o ≡ false → o ≡ none
-not_there none e = refl
-not_there (some i) e = true_false {b = true} refl e
+not_there : (o : Option ℕ) → there o ≡ false → o ≡ None
+not_there None e = refl
+not_there (Some i) e = true_false {b = true} refl e
 
 module _ (Y : Shape) where
   -- one of the two buckets of an animal

@@ -6,7 +6,7 @@ use native.Mathlib.Decide.{ℕ_discrete, dec_lt}
 use mathlib.Core.Path.{◌≡◌, refl, sym, ap, ◌∙◌}
 use mathlib.Core.Logic.{dite}
 use mathlib.Core.Bool.{true, false}
-use mathlib.Core.Option.{Option, none, some}
+use Rattle.std.specs.Prelude.{Option, Some, None}
 use mathlib.Core.List.{List, Memᴰ as In}
 use lib.ListN.{length, get_or, length-set}
 use lib.Seq.{get_or-set_same, get_or-set_other, set_out}
@@ -34,9 +34,9 @@ parity l c j =
     λ h. let k : length l ≤ c = omega arith in simp set_out
 
 -- the hit, or none
-pub no_hit : (m : Mem) (o : Option ℕ) → place_at m o ≡ none → o ≡ none
-no_hit m none e = refl
-no_hit m (some i) e = true_false {b = true} refl (ap there e)
+pub no_hit : (m : Mem) (o : Option ℕ) → place_at m o ≡ None → o ≡ None
+no_hit m None e = refl
+no_hit m (Some i) e = true_false {b = true} refl (ap there e)
 
 module _ (Y : Shape) (L : Lawful Y) (m : Mem) (v : MoveRecord) (h : MayMove Y m.slots v) where
   abbrev m' : Mem
@@ -91,11 +91,11 @@ module _ (Y : Shape) (L : Lawful Y) (m : Mem) (v : MoveRecord) (h : MayMove Y m.
           from : In v.from (homes Y x) → choose (eqb (tag 0) (Y.tag_of x)) (eqb (animal m.items (place 0)) x) false ≡ false
           from q = both_no (tag 0) (Y.tag_of x) (animal m.items (place 0)) x λ t a. absurd (omega (arith, L.tag_low x))
 
-      pub away_later : held Y m x ≡ none → held Y m' x ≡ none
+      pub away_later : held Y m x ≡ None → held Y m' x ≡ None
       unfolding hit
       away_later e = ap (place_at m') (go (first_is (hits Y m x) (homes Y x)) (first_is (hits Y m' x) (homes Y x)) (no_hit m (hit Y m x) e))
         where
-          go : {o o' : Option ℕ} → First (hits Y m x) (homes Y x) o → First (hits Y m' x) (homes Y x) o' → o ≡ none → o' ≡ none
+          go : {o o' : Option ℕ} → First (hits Y m x) (homes Y x) o → First (hits Y m' x) (homes Y x) o' → o ≡ None → o' ≡ None
           go (found q t) f e = true_false {b = true} refl (ap there e)
           go (missing n) (missing n') e = refl
           go (missing n) (found {i = i} q t) e = true_false t (no_hits n i q)

@@ -6,7 +6,7 @@ use native.Mathlib.Decide.{ℕ_discrete, dec_le}
 use mathlib.Core.Path.{◌≡◌, refl, sym, ap, ◌∙◌, subst}
 use mathlib.Core.Logic.{◌≢◌, ◌⊎◌, inl, inr, ⊎_elim, dite}
 use mathlib.Core.Bool.{Bool, true, false}
-use mathlib.Core.Option.{Option, none, some}
+use Rattle.std.specs.Prelude.{Option, Some, None}
 use mathlib.Core.List.{List, [], ◌∷◌, ◌++◌, append-nil}
 use lib.ListN.{length, get_or, set, take}
 use lib.Seq.{get_or-set_other, take-nil, take-append-le}
@@ -77,16 +77,16 @@ module _ (Y : Shape) (x : ℕ) where
 
   view_stands : (m : Mem) (o : Option Entry) → View Y x o m → (p : ℕ) → AtPlace Y x p o → Stands Y m x
   unfolding hits
-  view_stands m none r p h = absurd h
-  view_stands m (some e) r p h =
+  view_stands m None r p h = absurd h
+  view_stands m (Some e) r p h =
       (e.slot, r.stands.home, both_yes r.stands.tagged (ap (animal m.items) r.stands.points ∙ r.stands.holds))
 
   -- found by no slot
-  nowhere : (m : Mem) {o : Option ℕ} → First (hits Y m x) (homes Y x) o → o ≡ none → Stands Y m x → ⊥
+  nowhere : (m : Mem) {o : Option ℕ} → First (hits Y m x) (homes Y x) o → o ≡ None → Stands Y m x → ⊥
   nowhere m (found q t) e st = true_false {b = true} refl (ap there e)
   nowhere m (missing h) e st = true_false st.2 (h st.0 st.1)
 
-  pub not_standing : (m : Mem) → hit Y m x ≡ none → Stands Y m x → ⊥
+  pub not_standing : (m : Mem) → hit Y m x ≡ None → Stands Y m x → ⊥
   unfolding hit
   not_standing m e st = nowhere m (first_is (hits Y m x) (homes Y x)) e st
 
@@ -178,15 +178,15 @@ module _ (Y : Shape) (m : Mem) where
   moves_keep T (u ∷ ms) q p i = moves_keep (moved T u) ms q p i
 
   new_keeps : (q : Grant) (o : Option ℕ) → Keeping (enter_at Y m q o)
-  new_keeps q none = refusal 5
-  new_keeps q (some p) =
+  new_keeps q None = refusal 5
+  new_keeps q (Some p) =
       let x = q.animal in
       pass (search_damage Y m x) (refusal 4) (pass (eqb (stopped Y m x) (length (visited Y m x))) (refusal 6)
       (record { keeps = moves_keep m.slots (moves_found Y m x) q p (final_slot Y m x) }))
 
   set_at_keeps : (q : Grant) (o : Option ℕ) → Keeping (set_at Y m q o)
-  set_at_keeps q none = new_keeps q (vacant_place Y.places m.items)
-  set_at_keeps q (some p) = pass (late (stamp m.items p) q) (refusal 11) (record { keeps = tt })
+  set_at_keeps q None = new_keeps q (vacant_place Y.places m.items)
+  set_at_keeps q (Some p) = pass (late (stamp m.items p) q) (refusal 11) (record { keeps = tt })
 
   set_keeps : (q : Grant) → Keeping (call Y m (set_animal q))
   set_keeps q =
@@ -207,10 +207,10 @@ module _ (Y : Shape) (m : Mem) where
   kept (step_enter q p i) h x ne = absurd h
 
 -- the walk finds the animal
-walk_sound : (M : ℕ) (l : List ℕ) (x p : ℕ) → walk_to l x M 0 ≡ some p → animal l p ≡ x
+walk_sound : (M : ℕ) (l : List ℕ) (x p : ℕ) → walk_to l x M 0 ≡ Some p → animal l p ≡ x
 walk_sound M l x p e = go (walk_is l x M 0) e
   where
-    go : {o : Option ℕ} → First (λ q. eqb (animal l q) x) (range 0 M) o → o ≡ some p → animal l p ≡ x
+    go : {o : Option ℕ} → First (λ q. eqb (animal l q) x) (range 0 M) o → o ≡ Some p → animal l p ≡ x
     go (found {i = i} q t) e = let f : i ≡ p = cc in rw (← f) (eqb-true (animal l i) x t)
     go (missing h) e = let z : ◌≡◌ {A = ℕ} 0 1 = cc in absurd (omega arith)
 

@@ -4,7 +4,7 @@ use native.Mathlib.Omega.{arith}
 use mathlib.Core.Path.{◌≡◌, refl, sym, ap}
 use mathlib.Core.Logic.{◌≢◌}
 use mathlib.Core.Bool.{Bool, true, false}
-use mathlib.Core.Option.{Option, none, some}
+use Rattle.std.specs.Prelude.{Option, Some, None}
 use mathlib.Core.List.{List}
 use lib.Dec.{leb}
 use borrow.Author.Tests.{leb-false}
@@ -20,11 +20,11 @@ use Rattle.model.proofs.Clock.{always_victim, live_is}
 use Rattle.model.specs.Calling.{evict}
 
 -- a search looks at no more places than it may
-looked_most : (M : ℕ) (l : List ℕ) (f h n : ℕ) (v : Victim) → seek_victim M l f h n ≡ some v → v.looked ≤ n + f
+looked_most : (M : ℕ) (l : List ℕ) (f h n : ℕ) (v : Victim) → seek_victim M l f h n ≡ Some v → v.looked ≤ n + f
 unfolding seek_victim
 looked_most M l zero h n v e = let z : ◌≡◌ {A = ℕ} 0 1 = cc in absurd (omega arith)
 looked_most M l (suc f) h n v e =
-    bool (λ b. choose b (some (record { place = h; looked = n + 1 })) (seek_victim M l f (next_hand M h) (n + 1)) ≡ some v → v.looked ≤ n + suc f)
+    bool (λ b. choose b (Some (record { place = h; looked = n + 1 })) (seek_victim M l f (next_hand M h) (n + 1)) ≡ Some v → v.looked ≤ n + suc f)
     (takes (live l h) (is_recent l h) (leb M n))
     (λ t e. let z : record { place = h; looked = n + 1 } ≡ v = cc in omega (arith, ap (λ (v : Victim). v.looked) z))
     (λ t e. omega (arith, looked_most M l f (next_hand M h) (n + 1) v e)) e
@@ -34,7 +34,7 @@ module _ (Y : Shape) (m : Mem) (hand : ℕ) where
   M = Y.places
 
   -- where a place is live there is a victim
-  found_victim : {o : Option ℕ} → First (live m.items) (range 0 M) o → there o ≡ true → hand < M → victim M m.items hand ≢ none
+  found_victim : {o : Option ℕ} → First (live m.items) (range 0 M) o → there o ≡ true → hand < M → victim M m.items hand ≢ None
   found_victim (missing h) e hm = true_false {b = true} refl (sym e)
   found_victim (found {i = p} q t) e hm = always_victim M m.items hand p hm (omega (arith, in_range 0 M q)) (live_is m.items p t)
 
@@ -51,21 +51,21 @@ module _ (Y : Shape) (m : Mem) (hand : ℕ) where
   tidy_or false t t' = t'
 
   slot_tidy : (v : Victim) → v.looked ≤ 2 * M → (x : ℕ) (o : Option ℕ) → Tidy (evict_slot Y m hand v x o)
-  slot_tidy v l x none = refusal 4 (λ e. absurd (omega arith))
-  slot_tidy v l x (some i) =
+  slot_tidy v l x None = refusal 4 (λ e. absurd (omega arith))
+  slot_tidy v l x (Some i) =
       record {
         not_ten = λ e. let z : ◌≡◌ {A = ℕ} 0 1 = cc in absurd (omega arith);
         within = λ y n h e. let f : v.looked ≡ n = cc in omega arith;
       }
 
-  victim_tidy : (o : Option Victim) → ((v : Victim) → o ≡ some v → v.looked ≤ 2 * M) → o ≢ none → Tidy (evict_at Y m hand o)
-  victim_tidy none l ne = absurd (ne refl)
-  victim_tidy (some v) l ne =
+  victim_tidy : (o : Option Victim) → ((v : Victim) → o ≡ Some v → v.looked ≤ 2 * M) → o ≢ None → Tidy (evict_at Y m hand o)
+  victim_tidy None l ne = absurd (ne refl)
+  victim_tidy (Some v) l ne =
       let x = animal m.items v.place in
       tidy_or (busy Y m x) (refusal 8 (λ e. absurd (omega arith)))
       (tidy_or (home_damage Y m x) (refusal 4 (λ e. absurd (omega arith))) (slot_tidy v (l v refl) x (slot_of Y m x v.place)))
 
-  lives : some_live M m.items ≡ true → hand < M → victim M m.items hand ≢ none
+  lives : some_live M m.items ≡ true → hand < M → victim M m.items hand ≢ None
   unfolding some_live
   lives a hm = found_victim (first_is (live m.items) (range 0 M)) a hm
 

@@ -5,7 +5,7 @@ use native.Mathlib.Decide.{ℕ_discrete, dec_lt}
 use mathlib.Core.Path.{◌≡◌, refl, sym, ◌∙◌}
 use mathlib.Core.Logic.{◌≢◌, inl, inr, dite}
 use mathlib.Core.Bool.{Bool, true, false, not, ◌&&◌}
-use mathlib.Core.Option.{Option, none, some}
+use Rattle.std.specs.Prelude.{Option, Some, None}
 use mathlib.Core.List.Memᴰ.{head}
 use mathlib.Core.List.Memᴰ.{not-nil}
 use mathlib.Core.List.Memᴰ.{tail}
@@ -60,14 +60,14 @@ cleared l p d = filled l p 0 0 0 0 (λ e. absurd (omega arith)) d
 
 -- the turn of the hand writes recent words only
 abbrev TurnDated : Option Turn → Type 0
-TurnDated none = Unit {0}
-TurnDated (some t) = Dated t.words
+TurnDated None = Unit {0}
+TurnDated (Some t) = Dated t.words
 
 turned : (M : ℕ) (l : List ℕ) (f p n : ℕ) → Dated l → TurnDated (row_clock M l f p n)
 unfolding row_clock
 turned M l zero p n d = tt
 turned M l (suc f) p n d =
-    bool (λ b. TurnDated (choose b (some (record { words = l; victim = p; looked = n + 1 })) (row_clock M (passed l p) f ((p + 1) % M) (n + 1))))
+    bool (λ b. TurnDated (choose b (Some (record { words = l; victim = p; looked = n + 1 })) (row_clock M (passed l p) f ((p + 1) % M) (n + 1))))
     (not (eqb (animal l p) 0) && eqb (recent l p) 0) (λ _. d)
     λ _. turned M (passed l p) f ((p + 1) % M) (n + 1) (bool (λ b. Dated (choose b l (note l p 0))) (eqb (animal l p) 0) (λ _. d) λ _. noted l p 0 d)
 
@@ -81,25 +81,25 @@ module _ (M told : ℕ) (l : List ℕ) (d : Dated l) where
   fine false n r h = h refl
 
   serve_fine : (limit now : ℕ) (o : Option ℕ) → Fine (row_serve M l limit now o)
-  serve_fine limit now none = d
-  serve_fine limit now (some p) =
-      bool (λ b. Dated (choose b (note l p 1) l)) (says_fresh (row_read M l limit now (some p))) (λ _. noted l p 1 d) λ _. d
+  serve_fine limit now None = d
+  serve_fine limit now (Some p) =
+      bool (λ b. Dated (choose b (note l p 1) l)) (says_fresh (row_read M l limit now (Some p))) (λ _. noted l p 1 d) λ _. d
 
   new_fine : (g : Grant) → g.issued ≢ retired_mark → (o : Option ℕ) → Fine (row_new M told l g o)
-  new_fine g ne none = d
-  new_fine g ne (some p) = fine (eqb told 6) 6 _ λ _. filled l p g.animal g.permission g.issued 1 ne d
+  new_fine g ne None = d
+  new_fine g ne (Some p) = fine (eqb told 6) 6 _ λ _. filled l p g.animal g.permission g.issued 1 ne d
 
   set_fine : (g : Grant) → g.issued ≢ retired_mark → (o : Option ℕ) → Fine (row_set M told l g o)
-  set_fine g ne none = new_fine g ne (walk_to l 0 M 0)
-  set_fine g ne (some p) = fine (row_late M (stamp l p) g) 11 _ λ _. three l p g.permission g.issued 1 ne d
+  set_fine g ne None = new_fine g ne (walk_to l 0 M 0)
+  set_fine g ne (Some p) = fine (row_late M (stamp l p) g) 11 _ λ _. three l p g.permission g.issued 1 ne d
 
   delete_fine : (o : Option ℕ) → Fine (row_delete M l o)
-  delete_fine none = d
-  delete_fine (some p) = cleared l p d
+  delete_fine None = d
+  delete_fine (Some p) = cleared l p d
 
   evict_fine : (o : Option Turn) → TurnDated o → Fine (row_evict M l o)
-  evict_fine none t = d
-  evict_fine (some w) t = cleared w.words w.victim t
+  evict_fine None t = d
+  evict_fine (Some w) t = cleared w.words w.victim t
 
   -- a minute of issue that 3 lets pass is not the mark
   issue_dated : (g : Grant) → MinuteFits g → row_bad_grant M g ≡ false → g.issued ≢ retired_mark
@@ -109,8 +109,8 @@ module _ (M told : ℕ) (l : List ℕ) (d : Dated l) where
   asked_fine x bad r h = fine (eqb x 0) 2 _ λ _. fine bad 3 r h
 
   enter_fine : (g : Grant) → g.issued ≢ retired_mark → (p : ℕ) (o : Option ℕ) → Fine (row_enter M told l g p o)
-  enter_fine g ne p (some q) = d
-  enter_fine g ne p none =
+  enter_fine g ne p (Some q) = d
+  enter_fine g ne p None =
       fine (leb M p) 12 _ λ _. fine (not (eqb (animal l p) 0)) 12 _ λ _. fine (eqb told 12) 12 _ λ _.
       filled l p g.animal g.permission g.issued 1 ne d
 

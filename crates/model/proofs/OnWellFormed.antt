@@ -3,7 +3,7 @@ use Prim.Native.Nat.{ℕ, ◌*◌, ◌<◌}
 use mathlib.Core.Path.{◌≡◌, sym, ap, ◌∙◌, subst}
 use mathlib.Core.Logic.{◌⊎◌, inl, inr, ⊎_elim}
 use mathlib.Core.Bool.{true, false}
-use mathlib.Core.Option.{none, some}
+use Rattle.std.specs.Prelude.{Some, None}
 use mathlib.Core.List.{List, []}
 use lib.ListN.{length, take}
 use lib.IntN.{ℤ}
@@ -125,7 +125,7 @@ module _ (W : Ways) (m₀ : Mem) (right : right_lengths W m₀ ≡ true) where
             (cut_seen Y lawY m g c t k x limit now)
 
     -- a set of a held animal reports no search
-    pub counts_on : (q : Grant) → GoodInputs q → (p : ℕ) → walk_to m.items q.animal Y.places 0 ≡ some p
+    pub counts_on : (q : Grant) → GoodInputs q → (p : ℕ) → walk_to m.items q.animal Y.places 0 ≡ Some p
         → row_late Y.places (stamp m.items p) q ≡ false → O.answer m (did (set_animal q)) ≡ stored 0 0
     counts_on q good p e k =
         let x = q.animal in
@@ -137,7 +137,7 @@ module _ (W : Ways) (m₀ : Mem) (right : right_lengths W m₀ ≡ true) where
 
     -- demand 3
     pub roomy_on : (q : Grant) → GoodInputs q
-        → walk_to m.items q.animal Y.places 0 ≡ none → (p : ℕ) → walk_to m.items 0 Y.places 0 ≡ some p
+        → walk_to m.items q.animal Y.places 0 ≡ None → (p : ℕ) → walk_to m.items 0 Y.places 0 ≡ Some p
         → Roomy Y m.slots q.animal (O.answer m (did (set_animal q))) (leaves O m (did (set_animal q))).slots
     roomy_on q good away p vacant =
         subst (λ (T' : List ℕ). Roomy Y m.slots q.animal (O.answer m (did (set_animal q))) T')

@@ -1,8 +1,7 @@
 -- The paper's number and values tell every answer apart. Assumes nothing.
 use Prim.Native.Nat.{ℕ, suc, zero}
 use mathlib.Core.Path.{◌≡◌, refl, sym, ap, ◌∙◌}
-use mathlib.Core.Option
-use mathlib.Core.Option.{Option}
+use Rattle.std.specs.Prelude.{Option, unwrap_or}
 use mathlib.Core.List.{List, [], ◌∷◌}
 use lib.ListN.{get_or, drop}
 use lib.IntN.{ℤ, pos}
@@ -13,8 +12,8 @@ use mathlib.Core.Logic.{◌≢◌}
 -- the answer is read back off them
 back_from : Option ℤ → ℕ → List ℕ → Answer
 back_from o zero vs = absent
-back_from o (suc zero) vs = fresh (get_or vs 0 0) (Option.get_or o (pos 0))
-back_from o (suc (suc zero)) vs = old (Option.get_or o (pos 0))
+back_from o (suc zero) vs = fresh (get_or vs 0 0) (unwrap_or o (pos 0))
+back_from o (suc (suc zero)) vs = old (unwrap_or o (pos 0))
 back_from o (suc (suc (suc zero))) vs = ahead
 back_from o (suc (suc (suc (suc zero)))) vs = stored (get_or vs 0 0) (get_or vs 1 0)
 back_from o (suc (suc (suc (suc (suc zero))))) vs = deleted

@@ -5,7 +5,7 @@ use native.Mathlib.Omega.{arith}
 use mathlib.Core.Path.{◌≡◌, sym, ap, ◌∙◌, subst}
 use mathlib.Core.Logic.{◌≢◌, ⊎_elim}
 use mathlib.Core.Bool.{Bool, true, false}
-use mathlib.Core.Option.{none}
+use Rattle.std.specs.Prelude.{None}
 use mathlib.Core.List.{List}
 use lib.ListN.{length}
 use lib.Seq.{take_all}
@@ -52,9 +52,9 @@ module _ (W : Ways) (s : Story W) where
   same : shape_of W m ≡ Z
   same = alike_shape W s.memory s.right (well_alike W s.memory s.right (well_story W s))
 
-  module _ (g : Grant) (good : GoodInputs g) (away : walk_to m.items g.animal Z.places 0 ≡ none) where
-    absent : held (shape_of W m) m g.animal ≡ none
-    absent = subst (λ Y. held Y m g.animal ≡ none) (sym same) (held_walk Z m (well_story W s) g.animal good.real ∙ away)
+  module _ (g : Grant) (good : GoodInputs g) (away : walk_to m.items g.animal Z.places 0 ≡ None) where
+    absent : held (shape_of W m) m g.animal ≡ None
+    absent = subst (λ Y. held Y m g.animal ≡ None) (sym same) (held_walk Z m (well_story W s) g.animal good.real ∙ away)
 
   module _ (g : Grant) (vs : List MoveRecord) (p i : ℕ) (e : O.answer m (did (plan_set g)) ≡ planned vs p i) where
     run_is : Run Z.layout m.slots (as_moves vs)
@@ -77,11 +77,11 @@ pub plan_room : (W : Ways) → PlanRoom W (ours W)
 plan_room W s g good away p vacant =
     let m = table W (ours W) s in
     let K = plan_is_sets W m g in
-    let none = absent W s g good (ap (λ l. walk_to l g.animal (shape_in W s).places 0) (same_story W s) ∙ away) in
+    let None = absent W s g good (ap (λ l. walk_to l g.animal (shape_in W s).places 0) (same_story W s) ∙ away) in
     let R = our_room W s g good away p vacant in
     record {
-      six = (λ e. R.six.0 ((K.refuses none 6).0 e), λ n. (K.refuses none 6).1 (R.six.1 n));
-      else_plans = λ n. let (v, k, e) = R.else_stores n in K.stores none v k e;
+      six = (λ e. R.six.0 ((K.refuses None 6).0 e), λ n. (K.refuses None 6).1 (R.six.1 n));
+      else_plans = λ n. let (v, k, e) = R.else_stores n in K.stores None v k e;
       run = λ vs p i e. run_is W s g vs p i e;
       few = λ vs p i e. few_are W s g vs p i e;
       inside = λ vs p i e. (plan_final W m g vs p i (as_found W m g vs p i e)).0;

@@ -5,7 +5,7 @@ use native.Mathlib.Decide.{ℕ_discrete}
 use mathlib.Core.Path.{◌≡◌, refl, sym, ap, ◌∙◌}
 use mathlib.Core.Logic.{◌≢◌, dite}
 use mathlib.Core.Bool.{Bool, true}
-use mathlib.Core.Option.{Option, some}
+use Rattle.std.specs.Prelude.{Option, Some}
 use mathlib.Core.List.{List, Memᴰ as In}
 use lib.Dec.{eqb}
 use borrow.Author.Tests.{eq-eqb, eqb-true}
@@ -38,7 +38,7 @@ module _ (Y : Shape) (m : Mem) (g : WellFormed Y m) where
 
     agree : {o o' : Option ℕ} → First (hits Y m x) (homes Y x) o → First (λ p. eqb (animal m.items p) x) (range 0 Y.places) o' → place_at m o ≡ o'
     agree (found {i = i} q t) (found {i = p} q' t') =
-        ap some (g.distinct (place (word m i)) p (rw (hit_number i t) nz) (hit_number i t ∙ sym (eqb-true (animal m.items p) x t')))
+        ap Some (g.distinct (place (word m i)) p (rw (hit_number i t) nz) (hit_number i t ∙ sym (eqb-true (animal m.items p) x t')))
     agree (found {i = i} q t) (missing h) =
         let lv : Live m.items (place (word m i)) = rw (hit_number i t) nz in
         true_false (eq-eqb (animal m.items (place (word m i))) x (hit_number i t))

@@ -4,7 +4,7 @@ use native.Mathlib.Omega.{arith}
 use mathlib.Core.Path.{◌≡◌, refl, sym, ap, ◌∙◌}
 use mathlib.Core.Logic.{◌≢◌}
 use mathlib.Core.Bool.{Bool, true, false}
-use mathlib.Core.Option.{Option, some}
+use Rattle.std.specs.Prelude.{Option, Some}
 use mathlib.Core.List.{[]}
 use lib.ListN.{get_or}
 use borrow.Author.Tests.{eq-eqb, le-ltb, ne_eqb}
@@ -38,14 +38,14 @@ module _ (W : Ways) (m : Mem) (x p : ℕ) (r : RetiredAt W m x p) where
   Y = shape_of W m
 
   -- a question about the animal comes to what its place says
-  comes : {bad : Bool} → bad ≡ false → (at : Option ℕ → Outcome) → choose true (asked Y m x bad (at (held Y m x))) (refuse 1) ≡ at (some p)
+  comes : {bad : Bool} → bad ≡ false → (at : Option ℕ → Outcome) → choose true (asked Y m x bad (at (held Y m x))) (refuse 1) ≡ at (Some p)
   comes e at = rw (ne_eqb x 0 r.real, e, r.calm, r.sound) (ap at r.held_at)
 
   module _ (limit now : ℕ) where
-    lent_read : bad_time limit now ≡ false → lent_call W m (read x limit now) ≡ tell (judge m.items limit now (some p))
+    lent_read : bad_time limit now ≡ false → lent_call W m (read x limit now) ≡ tell (judge m.items limit now (Some p))
     lent_read e = rw r.lengths (comes e (λ o. tell (judge m.items limit now o)))
 
-    lent_serve : bad_time limit now ≡ false → lent_call W m (serve x limit now) ≡ serve_at Y m limit now (some p)
+    lent_serve : bad_time limit now ≡ false → lent_call W m (serve x limit now) ≡ serve_at Y m limit now (Some p)
     lent_serve e = rw r.lengths (comes e (serve_at Y m limit now))
 
     good : limit ≤ 10080 → now ≢ no_minute → bad_time limit now ≡ false

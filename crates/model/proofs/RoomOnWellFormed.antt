@@ -4,7 +4,7 @@ use native.Mathlib.Omega.{arith}
 use mathlib.Core.Path.{◌≡◌, refl, sym, ap, ◌∙◌}
 use mathlib.Core.Logic.{◌≢◌, ◌↔◌, ⊎_elim}
 use mathlib.Core.Bool.{Bool, true, false}
-use mathlib.Core.Option.{none, some}
+use Rattle.std.specs.Prelude.{Some, None}
 use mathlib.Core.List.Memᴰ.{head}
 use mathlib.Core.List.Memᴰ.{tail}
 use mathlib.Core.List.{List, [], ◌∷◌, ◌++◌}
@@ -36,7 +36,7 @@ use Rattle.model.proofs.StepSet.{final_home, found_room, no_search_damage}
 use Rattle.model.specs.Calling.{Call, set_animal}
 
 module _ (Y : Shape) (L : Lawful Y) (m : Mem) (g : WellFormed Y m) (q : Grant) (good : GoodInputs q)
-    (away : walk_to m.items q.animal Y.places 0 ≡ none) (p : ℕ) (vacant : walk_to m.items 0 Y.places 0 ≡ some p) where
+    (away : walk_to m.items q.animal Y.places 0 ≡ None) (p : ℕ) (vacant : walk_to m.items 0 Y.places 0 ≡ Some p) where
   abbrev x : ℕ
   x = q.animal
 

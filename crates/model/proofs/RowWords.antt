@@ -6,7 +6,7 @@ use native.Mathlib.Decide.{ℕ_discrete, dec_lt, dec_le}
 use mathlib.Core.Path.{◌≡◌, refl, sym, ap, subst, ◌∙◌, ap₂}
 use mathlib.Core.Logic.{◌≢◌, dite}
 use mathlib.Core.Bool.{Bool, true, false, not, ◌&&◌, ◌||◌}
-use mathlib.Core.Option.{some}
+use Rattle.std.specs.Prelude.{Some}
 use mathlib.Core.List.{List, [], ◌∷◌, ◌++◌}
 use lib.IntN.{ℤ}
 use lib.Signed.{lt_z, lt_z_no}
@@ -129,6 +129,6 @@ pub live_one : (l : List ℕ) (n p : ℕ) → any (live l) (range p n) ≡ not (
 unfolding first range row_count
 live_one l zero p = refl
 live_one l (suc n) p =
-    bool (λ b. there (choose (not b) (some p) (first (live l) (range (suc p) n))) ≡ not (eqb (choose {A = ℕ} b 0 1 + row_count l n (suc p)) 0)) (eqb (animal l p) 0)
+    bool (λ b. there (choose (not b) (Some p) (first (live l) (range (suc p) n))) ≡ not (eqb (choose {A = ℕ} b 0 1 + row_count l n (suc p)) 0)) (eqb (animal l p) 0)
     (λ e. live_one l n (suc p) ∙ ap (λ k. not (eqb k 0)) (sym (zero-add (row_count l n (suc p)))))
     λ e. let ne : 1 + row_count l n (suc p) ≢ 0 = λ z. absurd (omega arith) in rw (ne_eqb (1 + row_count l n (suc p)) 0 ne)

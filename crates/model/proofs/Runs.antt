@@ -5,7 +5,7 @@ use native.Mathlib.Decide.{ℕ_discrete, dec_lt}
 use mathlib.Core.Path.{◌≡◌, refl, sym, ap, ◌∙◌}
 use mathlib.Core.Logic.{◌≢◌, dite}
 use mathlib.Core.Bool.{Bool, true, false}
-use mathlib.Core.Option.{Option, none, some}
+use Rattle.std.specs.Prelude.{Option, Some, None}
 use mathlib.Core.List.{List}
 use lib.ListN.{length-replicate}
 use lib.IntN.{ℤ}
@@ -71,8 +71,8 @@ serve_reads Y m x limit now =
     asked_answer Y m x (bad_time limit now) (serve_at Y m limit now (held Y m x)) (tell (judge m.items limit now (held Y m x))) (same (held Y m x))
   where
     same : (o : Option ℕ) → (serve_at Y m limit now o).answer ≡ judge m.items limit now o
-    same none = refl
-    same (some p) = refl
+    same None = refl
+    same (Some p) = refl
 
 -- fresh is said only of a permission in time
 module _ (l : List ℕ) (x limit now v : ℕ) (z : ℤ) where

@@ -6,7 +6,7 @@ use native.Mathlib.Decide.{dec_lt}
 use mathlib.Core.Path.{◌≡◌, refl}
 use mathlib.Core.Logic.{dite}
 use mathlib.Core.Bool.{Bool, true, false}
-use mathlib.Core.Option.{Option}
+use Rattle.std.specs.Prelude.{Option}
 use mathlib.Core.List.{List, [], ◌∷◌, Memᴰ as In}
 use lib.ListN.{length, get_or, take, length-take}
 use lib.Seq.{get_or-take}
@@ -37,17 +37,17 @@ module _ (S : Layout) (T : List ℕ) (M : ℕ) (Q : List ℕ) (h : ℕ) where
   module _ (top : ℕ) (sound : (j s : ℕ) → j < top → s < S.ways → damaged M (get_or T (get_or Q j 0 * S.ways + s) 0) ≡ false) where
     climb_sound : 0 < S.ways → 0 < h → (f q r : ℕ) → q ≤ top → Sound M T (climb S Q h f q r)
     unfolding climb
-    climb_sound pos some zero q r l = tt
-    climb_sound pos some (suc f) q r l =
+    climb_sound pos Some zero q r l = tt
+    climb_sound pos Some (suc f) q r l =
         dite (dec_lt q h) (λ k. rw (lt-ltb q h k) tt) λ k.
         let low : (q - h) / S.ways ≤ q - h = div-le_self (q - h) S.ways in
         rw (le-ltb q h (omega arith)) (
           sound ((q - h) / S.ways) ((q - h) % S.ways) (omega arith) (mod-lt (q - h) pos),
-          climb_sound pos some f ((q - h) / S.ways) ((q - h) % S.ways) (omega arith),
+          climb_sound pos Some f ((q - h) / S.ways) ((q - h) % S.ways) (omega arith),
         )
 
 -- the search from the buckets bs within d moves, which met no word that is damaged among M places and stopped before the end
-module _ (S : Layout) (T bs : List ℕ) (M d : ℕ) (pos : 0 < S.ways) (some : 0 < length bs)
+module _ (S : Layout) (T bs : List ℕ) (M d : ℕ) (pos : 0 < S.ways) (Some : 0 < length bs)
     (undamaged : meets_damage S T bs M d ≡ false) (h : stop S T bs d < length (visit_list S T bs d)) where
   visited_sound : (j s : ℕ) → j < stop S T bs d → s < S.ways → damaged M (get_or T (get_or (visit_list S T bs d) j 0 * S.ways + s) 0) ≡ false
   visited_sound j s l k =
@@ -62,5 +62,5 @@ module _ (S : Layout) (T bs : List ℕ) (M d : ℕ) (pos : 0 < S.ways) (some : 0
 
   pub moves_sound : Sound M T (search_moves S T bs d)
   moves_sound =
-      climb_sound S T M (visit_list S T bs d) (length bs) (stop S T bs d) visited_sound pos some d (stop S T bs d)
+      climb_sound S T M (visit_list S T bs d) (length bs) (stop S T bs d) visited_sound pos Some d (stop S T bs d)
       (free_slot S T (stop_bucket S T bs d)) (omega arith)

@@ -3,7 +3,7 @@ use Prim.Native.Nat.{ℕ, ◌+◌, ◌*◌, ◌/◌}
 use native.Mathlib.Omega.{arith}
 use mathlib.Core.Path.{◌≡◌, refl, sym, ap, ◌∙◌}
 use mathlib.Core.Logic.{◌≢◌, ◌⊎◌, inl, inr, ⊎_elim}
-use mathlib.Core.Option.{Option, none, some}
+use Rattle.std.specs.Prelude.{Option, Some, None}
 use lib.Dec.{eqb}
 use borrow.Author.Tests.{eq-eqb, eqb-true}
 use Rattle.model.specs.Choice.{range}
@@ -28,7 +28,7 @@ subject m (recency p v) = animal m.items p
 module _ (Y : Shape) (L : Lawful Y) (m : Mem) (g : WellFormed Y m) (x : ℕ) (nz : x ≢ 0) where
   view_of : {o : Option ℕ} → First (λ p. eqb (animal m.items p) x) (range 0 Y.places) o → (e : Option Entry) × View Y x e m
   view_of (missing h) = (
-    none,
+    None,
     record {
       stands = tt;
       only = λ q e. true_false (eq-eqb (animal m.items q) x e) (h q (range_in 0 Y.places (omega arith) (omega (arith, live_in Y g q (rw e nz)))));
@@ -40,7 +40,7 @@ module _ (Y : Shape) (L : Lawful Y) (m : Mem) (g : WellFormed Y m) (x : ℕ) (nz
       let s = g.pointed p (rw e nz) in
       let a : animal m.items (place (word m s.0)) ≡ x = rw s.1.1 e in
       let r : Right Y x (word m s.0) s.0 = rw a at (g.points s.0 s.1.0) in (
-        some (record { slot = s.0; place = p; permission = permission m.items p; stamp = stamp m.items p }),
+        Some (record { slot = s.0; place = p; permission = permission m.items p; stamp = stamp m.items p }),
         record {
           stands = record { home = home_in Y m g.slots_long s.1.0 r.home; tagged = r.tagged; points = s.1.1; holds = e; permission_is = refl; stamp_is = refl };
           only = λ k f. sym (g.distinct p k (rw e nz) (e ∙ sym f));
@@ -53,17 +53,17 @@ module _ (Y : Shape) (L : Lawful Y) (m : Mem) (g : WellFormed Y m) (x : ℕ) (nz
 
   -- slots and item words that are not those of x
   off_slot : (o : Option Entry) → View Y x o m → (i : ℕ) → (word m i ≡ 0) ⊎ (animal m.items (place (word m i)) ≢ x) → OffSlot Y x i o
-  off_slot none r i h = tt
-  off_slot (some e) r i h =
+  off_slot None r i h = tt
+  off_slot (Some e) r i h =
       λ f. ⊎_elim (tagged_word L (word m i) x (rw f r.stands.tagged)) (λ k. k (rw (f, r.stands.points) r.stands.holds)) h
 
   off_item : (o : Option Entry) → View Y x o m → (p k : ℕ) → k / 4 ≡ p → animal m.items p ≢ x → OffItem Y x k o
-  off_item none r p k h ne = tt
-  off_item (some e) r p k h ne = inl (λ f. ne (rw (← h, f) r.stands.holds))
+  off_item None r p k h ne = tt
+  off_item (Some e) r p k h ne = inl (λ f. ne (rw (← h, f) r.stands.holds))
 
   off_recent : (o : Option Entry) (p : ℕ) → OffItem Y x (4 * p + 3) o
-  off_recent none p = tt
-  off_recent (some e) p = inr (omega arith)
+  off_recent None p = tt
+  off_recent (Some e) p = inr (omega arith)
 
   module _ (o : Option Entry) (r : View Y x o m) where
     pub spares_recent : (p v : ℕ) → AllSpare Y x o (stores_of (recency p v))

@@ -4,7 +4,7 @@ use Prim.Native.Nat.{ℕ, ◌*◌}
 use mathlib.Core.Path.{◌≡◌, refl, sym, ap, ◌∙◌, subst, ap₂}
 use mathlib.Core.Logic.{◌≢◌}
 use mathlib.Core.Bool.{Bool, true, false}
-use mathlib.Core.Option.{Option, none, some}
+use Rattle.std.specs.Prelude.{Option, Some, None}
 use mathlib.Core.List.{List, [], ◌∷◌}
 use lib.Dec.{eqb, ltb}
 use borrow.Author.Tests.{eqb-true, eqb-false}
@@ -76,8 +76,8 @@ module _ (Y : Shape) (L : Lawful Y) (m : Mem) (g : WellFormed Y m) where
       (h (walked x) (walk_is m.items x Y.places 0))
 
   judged : (limit now : ℕ) (o : Option ℕ) → plain (judge m.items limit now o) ≡ row_read Y.places m.items limit now o
-  judged limit now none = refl
-  judged limit now (some p) =
+  judged limit now None = refl
+  judged limit now (Some p) =
       plain_verdict limit now (permission m.items p) (stamp m.items p)
       ∙ says_is limit now (permission m.items p) (stamp m.items p) (g.narrow p)
 
@@ -93,7 +93,7 @@ module _ (Y : Shape) (L : Lawful Y) (m : Mem) (g : WellFormed Y m) where
       record {
         tale = bool (λ b. Tale Y x m (choose b (recency p 1 ∷ []) [])) fresh?
             (λ e. quiet (rw (eqb-true (animal m.items p) x t) nz) tt done) λ e. done;
-        answer = judged limit now (some p);
+        answer = judged limit now (Some p);
         items = bool (λ b. (wholes (choose b (recency p 1 ∷ []) []) m).items ≡ choose b (note m.items p 1) m.items) fresh?
             (λ e. refl) (λ e. refl)
             ∙ ap (λ b. choose b (note m.items p 1) m.items)
@@ -104,8 +104,8 @@ module _ (Y : Shape) (L : Lawful Y) (m : Mem) (g : WellFormed Y m) where
       fresh? = is_fresh limit now (stamp m.items p)
 
   pub step_find : (x : ℕ) (o : Option ℕ) → Step Y (λ a. x) m (tell (find_at o)) (λ f. stay m.items (row_find Y.places o))
-  step_find x none = still Y (λ a. x) m absent absent refl
-  step_find x (some p) = still Y (λ a. x) m (at_place p) (at_place p) refl
+  step_find x None = still Y (λ a. x) m absent absent refl
+  step_find x (Some p) = still Y (λ a. x) m (at_place p) (at_place p) refl
 
   hit_tag : (x i : ℕ) → hits Y m x i ≡ true → tag (word m i) ≡ Y.tag_of x
   unfolding hits

@@ -3,7 +3,7 @@ use Prim.Native.Nat.{ℕ, ◌+◌, ◌*◌, ◌<◌, ◌-◌, ◌%◌, min}
 use native.Mathlib.Omega.{arith}
 use mathlib.Core.Path.{◌≡◌, refl, sym, ap, ◌∙◌, subst}
 use mathlib.Core.Bool.{Bool, true, false, not}
-use mathlib.Core.Option.{Option, some}
+use Rattle.std.specs.Prelude.{Option, Some}
 use mathlib.Core.List.{List, [], ◌∷◌, ◌++◌}
 use lib.ListN.{get_or, set}
 use lib.Seq.{get_or-set_other}
@@ -63,7 +63,7 @@ module _ (Y : Shape) (L : Lawful Y) (m : Mem) (g : WellFormed Y m) (hand : ℕ) 
   step_slot : (v : Victim) → Live m.items v.place → {o : Option ℕ}
       → First (λ i. choose (eqb (tag (word m i)) (Y.tag_of (animal m.items v.place))) (eqb (place (word m i)) v.place) false)
       (homes Y (animal m.items v.place)) o
-      → Step Y victim_in m (evict_slot Y m hand v (animal m.items v.place) o) (λ f. row_found (some v))
+      → Step Y victim_in m (evict_slot Y m hand v (animal m.items v.place) o) (λ f. row_found (Some v))
   step_slot v lv (missing h) =
       let s = g.pointed v.place lv in
       let r : Right Y (animal m.items v.place) (word m s.0) s.0 = rw s.1.1 at (g.points s.0 s.1.0) in

@@ -4,7 +4,7 @@ use native.Mathlib.Omega.{arith}
 use mathlib.Core.Path.{◌≡◌, refl, sym, ap, ◌∙◌, subst}
 use mathlib.Core.Logic.{◌≢◌}
 use mathlib.Core.Bool.{Bool, true, false, not}
-use mathlib.Core.Option.{Option, none, some}
+use Rattle.std.specs.Prelude.{Option, Some, None}
 use mathlib.Core.List.{[], ◌∷◌}
 use lib.ListN.{length}
 use lib.Dec.{eqb, leb}
@@ -37,7 +37,7 @@ module _ (Y : Shape) (L : Lawful Y) (m : Mem) (g : WellFormed Y m) where
   plans_new x (found {i = p} q t) =
       rw (no_search_damage Y L m g x)
       (bool (λ b. Step Y (λ a. x) m (choose b (refuse 6) (tell (planned (records_of m.slots (moves_found Y m x)) p (final_slot Y m x))))
-      (λ f. stay m.items (row_plan_new Y.places f (some p)))) (eqb (stopped Y m x) (length (visited Y m x)))
+      (λ f. stay m.items (row_plan_new Y.places f (Some p)))) (eqb (stopped Y m x) (length (visited Y m x)))
       (λ e. record { tale = done; answer = refl; items = refl }) λ e. record { tale = done; answer = refl; items = refl })
 
   pub step_plan : (x : ℕ) {o : Option ℕ} → Held Y L m g x o
@@ -58,10 +58,10 @@ module _ (Y : Shape) (L : Lawful Y) (m : Mem) (g : WellFormed Y m) where
       λ e. record { tale = done; answer = refl; items = refl }
 
   -- an absent animal is in no place
-  nowhere : (x : ℕ) → x ≢ 0 → walked Y L m g x ≡ none → (q : ℕ) → animal m.items q ≢ x
+  nowhere : (x : ℕ) → x ≢ 0 → walked Y L m g x ≡ None → (q : ℕ) → animal m.items q ≢ x
   nowhere x nz e = go (walk_is m.items x Y.places 0) e
     where
-      go : {o : Option ℕ} → Held Y L m g x o → o ≡ none → (q : ℕ) → animal m.items q ≢ x
+      go : {o : Option ℕ} → Held Y L m g x o → o ≡ None → (q : ℕ) → animal m.items q ≢ x
       go (found t u) e = absurd (true_false {b = true} refl (ap there e))
       go (missing h) e =
           λ q f. true_false (eq-eqb (animal m.items q) x f)
@@ -87,8 +87,8 @@ module _ (Y : Shape) (L : Lawful Y) (m : Mem) (g : WellFormed Y m) where
         two false false = refl
 
         go : (o : Option ℕ) (b c : Bool) → row_enter Y.places 12 m.items q p o ≡ l
-        go none b c = two (leb Y.places p) (not (eqb (animal m.items p) 0))
-        go (some k) b c = refl
+        go None b c = two (leb Y.places p) (not (eqb (animal m.items p) 0))
+        go (Some k) b c = refl
 
     -- where the final store may be made, the entry fits, and the row fills the place
     filled : MayEnter Y m x p i → row 0 ≡ record { answer = entry_made; words = fill m.items p x q.permission q.issued 1 }

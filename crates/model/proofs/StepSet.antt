@@ -4,7 +4,7 @@ use native.Mathlib.Omega.{arith}
 use mathlib.Core.Path.{◌≡◌, refl, sym, ap, subst}
 use mathlib.Core.Logic.{◌≢◌}
 use mathlib.Core.Bool.{Bool, false}
-use mathlib.Core.Option.{Option, some}
+use Rattle.std.specs.Prelude.{Option, Some}
 use mathlib.Core.List.{List, [], ◌∷◌, ◌++◌}
 use lib.ListN.{length, take}
 use lib.Dec.{eqb}
@@ -107,7 +107,7 @@ module _ (Y : Shape) (L : Lawful Y) (m : Mem) (g : WellFormed Y m) (q : Grant) (
   step_new new (missing h) = still Y (λ a. x) m (refused 5) (refused 5) refl
   step_new new (found {i = p} r t) =
       rw (no_search_damage Y L m g x)
-      (bool (λ b. Step Y (λ a. x) m (choose b (refuse 6) (entered Y m q p)) (λ f. row_new Y.places f m.items q (some p)))
+      (bool (λ b. Step Y (λ a. x) m (choose b (refuse 6) (entered Y m q p)) (λ f. row_new Y.places f m.items q (Some p)))
       (eqb (stopped Y m x) (length (visited Y m x))) (λ e. record { tale = done; answer = refl; items = refl })
       λ e. record {
         tale = enter_tale new p (omega (arith, in_range 0 Y.places r)) (eqb-true (animal m.items p) 0 t)
@@ -130,7 +130,7 @@ module _ (Y : Shape) (L : Lawful Y) (m : Mem) (g : WellFormed Y m) (q : Grant) (
   step_set (found {i = p} r t) =
       let e = eqb-true (animal m.items p) x t in
       let f : Fits Y m (update (counter_of Y x) p q.permission q.issued) = (rw e nz, hv, ap (counter_of Y) (sym e)) in
-      subst (λ b. Step Y (λ a. x) m (set_at Y m q (some p)) (λ r. choose b (stay m.items (refused 11))
+      subst (λ b. Step Y (λ a. x) m (set_at Y m q (Some p)) (λ r. choose b (stay m.items (refused 11))
       (record { answer = stored 0 0; words = renew m.items p q.permission q.issued }))) (late_is Y.places (stamp m.items p) q)
       (both Y (λ a. x) m (late (stamp m.items p) q) (λ z. still Y (λ a. x) m (refused 11) (refused 11) refl)
       λ z. record { tale = last f e; answer = refl; items = refl })

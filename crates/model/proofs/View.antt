@@ -4,7 +4,7 @@ use native.Mathlib.Omega.{arith}
 use mathlib.Core.Path.{◌≡◌, refl, sym, ap, ◌∙◌}
 use mathlib.Core.Logic.{◌≢◌, ◌⊎◌, inl, inr, ⊎_elim}
 use mathlib.Core.Bool.{false}
-use mathlib.Core.Option.{Option, none, some}
+use Rattle.std.specs.Prelude.{Option, Some, None}
 use mathlib.Core.List.{List, [], ◌∷◌, Memᴰ as In}
 use lib.ListN.{get_or, set, take}
 use lib.Seq.{get_or-set_other}
@@ -25,8 +25,8 @@ pub record Entry : Type 0 where
 
 -- what is said of an entry
 abbrev pub told : ℕ → ℕ → Option Entry → Answer
-told limit now none = absent
-told limit now (some e) = verdict limit now e.permission e.stamp
+told limit now None = absent
+told limit now (Some e) = verdict limit now e.permission e.stamp
 
 module _ (Y : Shape) (x : ℕ) where
   -- the entry stands in memory
@@ -39,12 +39,12 @@ module _ (Y : Shape) (x : ℕ) where
     pub stamp_is : stamp m.items e.place ≡ e.stamp
 
   abbrev pub StandsIn : Mem → Option Entry → Type 0
-  StandsIn m none = Unit {0}
-  StandsIn m (some e) = Stands m e
+  StandsIn m None = Unit {0}
+  StandsIn m (Some e) = Stands m e
 
   abbrev pub AtPlace : ℕ → Option Entry → Type 0
-  AtPlace q none = ⊥
-  AtPlace q (some e) = q ≡ e.place
+  AtPlace q None = ⊥
+  AtPlace q (Some e) = q ≡ e.place
 
   -- x has the entry o, or none, and no other place holds x
   pub record View (o : Option Entry) (m : Mem) : Type 0 where
@@ -54,12 +54,12 @@ module _ (Y : Shape) (x : ℕ) where
 
   -- a store that leaves the entry o of x alone
   abbrev pub OffSlot : ℕ → Option Entry → Type 0
-  OffSlot i none = Unit {0}
-  OffSlot i (some e) = i ≢ e.slot
+  OffSlot i None = Unit {0}
+  OffSlot i (Some e) = i ≢ e.slot
 
   abbrev pub OffItem : ℕ → Option Entry → Type 0
-  OffItem k none = Unit {0}
-  OffItem k (some e) = (k / 4 ≢ e.place) ⊎ (k % 4 ≡ 3)
+  OffItem k None = Unit {0}
+  OffItem k (Some e) = (k / 4 ≢ e.place) ⊎ (k % 4 ≡ 3)
 
   abbrev pub Spares : Option Entry → Store → Type 0
   Spares o (bump c) = Unit {0}
@@ -76,10 +76,10 @@ module _ (Y : Shape) (x : ℕ) where
   off (inr h) l e = absurd (omega arith)
 
   stands_store : (m : Mem) (o : Option Entry) → StandsIn m o → (s : Store) → Spares o s → StandsIn (apply s m) o
-  stands_store m none r s h = tt
-  stands_store m (some e) r (bump c) h =
+  stands_store m None r s h = tt
+  stands_store m (Some e) r (bump c) h =
       record { home = r.home; tagged = r.tagged; points = r.points; holds = r.holds; permission_is = r.permission_is; stamp_is = r.stamp_is }
-  stands_store m (some e) r (slot_to i y) h =
+  stands_store m (Some e) r (slot_to i y) h =
       let same : get_or (set m.slots i y) e.slot 0 ≡ word m e.slot = get_or-set_other m.slots i e.slot y 0 (λ f. h.0 (sym f)) in
       record {
         home = r.home;
@@ -89,7 +89,7 @@ module _ (Y : Shape) (x : ℕ) where
         permission_is = r.permission_is;
         stamp_is = r.stamp_is;
       }
-  stands_store m (some e) r (item_to k v) h =
+  stands_store m (Some e) r (item_to k v) h =
       record {
         home = r.home;
         tagged = r.tagged;
@@ -123,12 +123,12 @@ module _ (Y : Shape) (x : ℕ) where
   module _ {m : Mem} where
     told_is : (limit now : ℕ) (o : Option Entry) → View o m → {i : Option ℕ} → First (hits Y m x) (homes Y x) i → judge m.items limit now (place_at m i) ≡ told limit now o
     unfolding hits
-    told_is limit now none r (missing h) = refl
-    told_is limit now none r (found {i = i} q t) =
+    told_is limit now None r (missing h) = refl
+    told_is limit now None r (found {i = i} q t) =
         absurd (r.only (place (word m i)) (both_is (tag (word m i)) (Y.tag_of x) (animal m.items (place (word m i))) x t).1)
-    told_is limit now (some e) r (missing h) =
+    told_is limit now (Some e) r (missing h) =
         true_false (both_yes r.stands.tagged (ap (animal m.items) r.stands.points ∙ r.stands.holds)) (h e.slot r.stands.home)
-    told_is limit now (some e) r (found {i = i} q t) =
+    told_is limit now (Some e) r (found {i = i} q t) =
         let p = r.only (place (word m i)) (both_is (tag (word m i)) (Y.tag_of x) (animal m.items (place (word m i))) x t).1 in
         rw p (rw (r.stands.permission_is, r.stands.stamp_is))
 

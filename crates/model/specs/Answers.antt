@@ -1,6 +1,5 @@
 -- What a call can answer, the paper's number and values of each answer, a signed one among them, and the refusal numbers. Assumes nothing.
-use Rattle.std.specs.Prelude.{ℕ, ◌≡◌, Bool, true, false, List, [], ◌∷◌, get_or, drop, ℤ, eqb}
-use Rattle.std.proofs.Math.Option.{Option, none, some}
+use Rattle.std.specs.Prelude.{ℕ, ◌≡◌, Bool, true, false, List, [], ◌∷◌, get_or, drop, ℤ, eqb, Option, Some, None}
 use Rattle.model.specs.Choice.{choose, one_of}
 use Rattle.model.specs.declared.MoveRecord.{MoveRecord}
 
@@ -28,10 +27,10 @@ pub record Paper : Type 0 where
   pub signed : Option ℤ
 
 abbrev pub success : List ℕ → Paper
-success vs = record { number = 0; values = vs; signed = none }
+success vs = record { number = 0; values = vs; signed = None }
 
 abbrev pub success_left : List ℕ → ℤ → Paper
-success_left vs z = record { number = 0; values = vs; signed = some z }
+success_left vs z = record { number = 0; values = vs; signed = Some z }
 
 -- the numbers of a plan's moves: source slot, tag and destination slot of each, in the order of making
 abbrev pub record_numbers : List MoveRecord → List ℕ
@@ -46,7 +45,7 @@ moves_from (a ∷ b ∷ []) = []
 moves_from (a ∷ b ∷ c ∷ l) = record { from = a; tag = b; to = c } ∷ moves_from l
 
 abbrev pub paper : Answer → Paper
-paper (refused n) = record { number = n; values = []; signed = none }
+paper (refused n) = record { number = n; values = []; signed = None }
 paper absent = success (0 ∷ [])
 paper (fresh v z) = success_left (1 ∷ v ∷ []) z
 paper (old z) = success_left (2 ∷ []) z

@@ -1,6 +1,5 @@
 -- The three demands, over any table; and, beyond the order, that no entry is ever lost and that age runs from issue. Assumes nothing.
-use Rattle.std.specs.Prelude.{ℕ, ◌+◌, ◌-◌, ◌*◌, ◌/◌, ◌^◌, ◌<◌, ◌≤◌, ◌%◌, ◌≡◌, ◌≢◌, ◌↔◌, ◌⊎◌, true, false, length, get_or, set, ℤ, pos}
-use Rattle.std.proofs.Math.Option.{none, some}
+use Rattle.std.specs.Prelude.{ℕ, ◌+◌, ◌-◌, ◌*◌, ◌/◌, ◌^◌, ◌<◌, ◌≤◌, ◌%◌, ◌≡◌, ◌≢◌, ◌↔◌, ◌⊎◌, true, false, length, get_or, set, ℤ, pos, Some, None}
 use mathlib.Core.List.{List, [], ◌∷◌, Memᴰ as In}
 use Rattle.model.specs.Memory.{Mem, animal, permission, stamp}
 use Rattle.model.specs.Shape.{Shape, pair, second_of, bucket, Home, homes, right_lengths, shape_of, Ways}
@@ -168,7 +167,7 @@ module _ (W : Ways) where
 
   -- a set of an animal that the row holds, if its list isn't late, reports 0 visits and 0 moves
   abbrev pub HeldCounts : Table → Type 0
-  HeldCounts T = (s : Story) (g : Grant) → GoodInputs g → (p : ℕ) → walk_to (row T s) g.animal (places s) 0 ≡ some p
+  HeldCounts T = (s : Story) (g : Grant) → GoodInputs g → (p : ℕ) → walk_to (row T s) g.animal (places s) 0 ≡ Some p
       → row_late (places s) (stamp (row T s) p) g ≡ false → T.answer (table T s) (did (set_animal g)) ≡ stored 0 0
 
   pub record Demand2 (T : Table) : Type 0 where
@@ -182,14 +181,14 @@ module _ (W : Ways) where
   -- Demand 3. On a table made by finished calls, for an absent animal, a vacant place and good inputs
   abbrev pub Demand3 : Table → Type 0
   Demand3 T = (s : Story) (g : Grant) → GoodInputs g
-      → walk_to (row T s) g.animal (places s) 0 ≡ none → (p : ℕ) → walk_to (row T s) 0 (places s) 0 ≡ some p
+      → walk_to (row T s) g.animal (places s) 0 ≡ None → (p : ℕ) → walk_to (row T s) 0 (places s) 0 ≡ Some p
       → Roomy (shape_in s) (table T s).slots g.animal (T.answer (table T s) (did (set_animal g)))
       (leaves T (table T s) (did (set_animal g))).slots
 
   -- Never lost, beyond the order: at every cut each animal that the row holds, but the one that the call takes away, stands in one of
   -- its home slots
   abbrev pub NeverLost : Table → Type 0
-  NeverLost T = (s : Story) (c : Call) → Typed c → HasCut c → (x p : ℕ) → x ≢ 0 → walk_to (row T s) x (places s) 0 ≡ some p
+  NeverLost T = (s : Story) (c : Call) → Typed c → HasCut c → (x p : ℕ) → x ≢ 0 → walk_to (row T s) x (places s) 0 ≡ Some p
       → x ≢ gone c (T.answer (table T s) (did c)) → (k : ℕ) → Stands (shape_in s) (cut_at T k (table T s) (did c)) x
 
   -- Age runs from issue, wish 1's first words, of any table: after a set that was stored, whenever it came, a read says

@@ -1,8 +1,7 @@
 -- Wish 7: a set in steps, with other calls between. When a move and the final store are made, what a plan is beside a set, and what comes
 -- of a plan that is carried out: over any table, but for `PlanIsSets`, which is of ours, and on any memory where no story is named.
 -- Assumes nothing.
-use Rattle.std.specs.Prelude.{ℕ, ◌+◌, ◌*◌, ◌%◌, ◌^◌, ◌<◌, ◌≤◌, ◌≡◌, ◌≢◌, ◌↔◌, false, List, [], ◌∷◌, ◌++◌, length, get_or, set}
-use Rattle.std.proofs.Math.Option.{none, some}
+use Rattle.std.specs.Prelude.{ℕ, ◌+◌, ◌*◌, ◌%◌, ◌^◌, ◌<◌, ◌≤◌, ◌≡◌, ◌≢◌, ◌↔◌, false, List, [], ◌∷◌, ◌++◌, length, get_or, set, Some, None}
 use Rattle.model.specs.Memory.{Mem, word, tag, damaged, animal}
 use Rattle.model.specs.Shape.{Shape, Ways, Home, bucket, counter_at, counter_of, other, shape_of}
 use Rattle.model.specs.Moves.{Move, Run, as_move, as_moves, moved, moved_by, records_of}
@@ -32,7 +31,7 @@ module _ (Y : Shape) where
   -- the final store of animal x may be made: it is absent, place and slot lie in their runs, the place is vacant, the slot free and in
   -- one of its buckets
   pub record MayEnter (m : Mem) (x p i : ℕ) : Type 0 where
-    pub away : held Y m x ≡ none
+    pub away : held Y m x ≡ None
     pub place_in : p < Y.places
     pub slot_in : i < length m.slots
     pub vacant : animal m.items p ≡ 0
@@ -90,7 +89,7 @@ module _ (W : Ways) (m : Mem) (g : Grant) where
 
   -- the moves, the place and the slot are those of the set, which has as many moves; each record has the tag that stands in its source
   pub record SetsOwn (vs : List MoveRecord) (p i : ℕ) : Type 0 where
-    pub away : held (shape_of W m) m g.animal ≡ none
+    pub away : held (shape_of W m) m g.animal ≡ None
     pub visits : ℕ
     pub told : set_answer ≡ stored visits (length vs)
     pub blocks_are : (lent_call W m (set_animal g)).blocks
@@ -101,9 +100,9 @@ module _ (W : Ways) (m : Mem) (g : Grant) where
   -- other stores
   pub record PlanIsSets : Type 0 where
     pub before_turn : ¬ ItsTurn W m g → plan_answer ≡ set_answer
-    pub twelve : (plan_answer ≡ refused 12) ↔ (ItsTurn W m g × ((p : ℕ) × (held (shape_of W m) m g.animal ≡ some p)))
-    pub refuses : held (shape_of W m) m g.animal ≡ none → (n : ℕ) → (plan_answer ≡ refused n) ↔ (set_answer ≡ refused n)
-    pub stores : held (shape_of W m) m g.animal ≡ none → (v n : ℕ) → set_answer ≡ stored v n
+    pub twelve : (plan_answer ≡ refused 12) ↔ (ItsTurn W m g × ((p : ℕ) × (held (shape_of W m) m g.animal ≡ Some p)))
+    pub refuses : held (shape_of W m) m g.animal ≡ None → (n : ℕ) → (plan_answer ≡ refused n) ↔ (set_answer ≡ refused n)
+    pub stores : held (shape_of W m) m g.animal ≡ None → (v n : ℕ) → set_answer ≡ stored v n
         → (vs : List MoveRecord) × (p i : ℕ) × (plan_answer ≡ planned vs p i)
     pub plans : (vs : List MoveRecord) (p i : ℕ) → plan_answer ≡ planned vs p i → SetsOwn vs p i
 
@@ -146,7 +145,7 @@ module _ (W : Ways) (T : Table) where
   -- at the moment of planning, on a table made by finished calls, for an absent animal, a vacant place and good inputs
   abbrev pub PlanRoom : Type 0
   PlanRoom = (s : Story W) (g : Grant) → GoodInputs g
-      → walk_to (row W T s) g.animal (places W s) 0 ≡ none → (p : ℕ) → walk_to (row W T s) 0 (places W s) 0 ≡ some p
+      → walk_to (row W T s) g.animal (places W s) 0 ≡ None → (p : ℕ) → walk_to (row W T s) 0 (places W s) 0 ≡ Some p
       → PlanRoomy (shape_in W s) (table W T s).slots g.animal (T.answer (table W T s) (did (plan_set g)))
 
   -- a finished call keeps the answer of every animal that it is not about; a move is about nobody

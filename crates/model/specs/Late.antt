@@ -1,6 +1,5 @@
 -- Wish 1, beyond its words, on any memory: when refusal 11 is given, and that no list lowers a stamp but the mark. Assumes nothing.
-use Rattle.std.specs.Prelude.{ℕ, ◌<◌, ◌≤◌, ◌≡◌, ◌≢◌, ◌↔◌, true, false}
-use Rattle.std.proofs.Math.Option.{some}
+use Rattle.std.specs.Prelude.{ℕ, ◌<◌, ◌≤◌, ◌≡◌, ◌≢◌, ◌↔◌, true, false, Some}
 use Rattle.model.specs.Memory.{Mem, stamp}
 use Rattle.model.specs.Shape.{Ways, right_lengths, shape_of}
 use Rattle.model.specs.Calling.{set_animal}
@@ -22,7 +21,7 @@ module _ (W : Ways) (m : Mem) (g : Grant) where
 
   -- the animal is held in place p, and its entry is not retired
   pub record Dated (p : ℕ) : Type 0 where
-    pub held_at : held (shape_of W m) m g.animal ≡ some p
+    pub held_at : held (shape_of W m) m g.animal ≡ Some p
     pub entry : stamp m.items p ≢ retired_mark
 
   -- 11 is given exactly if its turn comes and the animal is held with a later stamp, not a retired one

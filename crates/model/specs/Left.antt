@@ -1,6 +1,5 @@
 -- Wish 4: how long is left, as a signed number; and that fresh is said exactly if it is not negative. Assumes nothing.
-use Rattle.std.specs.Prelude.{ℕ, ◌-◌, ◌<◌, ◌≤◌, ◌≡◌, ◌≢◌, ◌↔◌, true, ℤ, pos, ◌-ℤ◌, ◌≤ℤ◌, ◌<ℤ◌}
-use Rattle.std.proofs.Math.Option.{some}
+use Rattle.std.specs.Prelude.{ℕ, ◌-◌, ◌<◌, ◌≤◌, ◌≡◌, ◌≢◌, ◌↔◌, true, ℤ, pos, ◌-ℤ◌, ◌≤ℤ◌, ◌<ℤ◌, Some}
 use Rattle.model.specs.Memory.{Mem}
 use Rattle.model.specs.Calling.{read, serve, did}
 use Rattle.model.specs.Answers.{Answer, ahead, paper, says_fresh}
@@ -21,7 +20,7 @@ LeftLeast = (limit a : ℕ) → limit_minus_age limit a <ℤ least_left → left
 -- what is said of a permission that is not ahead tells how long is left; one that is ahead is the named answer, with no number. What a
 -- retired one tells, Retired has
 abbrev pub HeldTells : Type 0
-HeldTells = (limit now v s : ℕ) → s ≢ retired_mark → s ≤ now → (paper (verdict limit now v s)).signed ≡ some (left_of limit (now - s))
+HeldTells = (limit now v s : ℕ) → s ≢ retired_mark → s ≤ now → (paper (verdict limit now v s)).signed ≡ Some (left_of limit (now - s))
 
 abbrev pub AheadTellsNothing : Type 0
 AheadTellsNothing = (limit now v s : ℕ) → s ≢ retired_mark → now < s → verdict limit now v s ≡ ahead
@@ -34,7 +33,7 @@ pub record Timely (limit : ℕ) (a : Answer) (z : ℤ) : Type 0 where
 
 -- so does whatever number an answer tells
 abbrev pub TellsTime : ℕ → Answer → Type 0
-TellsTime limit a = (z : ℤ) → (paper a).signed ≡ some z → Timely limit a z
+TellsTime limit a = (z : ℤ) → (paper a).signed ≡ Some z → Timely limit a z
 
 -- of any table, on any memory: read and serve say fresh exactly if what they tell is not negative
 abbrev pub FreshIffLeft : Table → Type 0

@@ -1,7 +1,6 @@
 -- Wish 6: entries that hold the mark of a standing permission, as a cabinet brings them from before. On any memory they read as old,
 -- serve makes no store for them, and a list replaces them; from fresh on there are none. Assumes nothing.
-use Rattle.std.specs.Prelude.{ℕ, ◌^◌, ◌<◌, ◌≤◌, ◌≡◌, ◌≢◌, ◌⊎◌, true, false}
-use Rattle.std.proofs.Math.Option.{some}
+use Rattle.std.specs.Prelude.{ℕ, ◌^◌, ◌<◌, ◌≤◌, ◌≡◌, ◌≢◌, ◌⊎◌, true, false, Some}
 use mathlib.Core.List.{List, [], Memᴰ as In}
 use Rattle.model.specs.Memory.{Mem, animal, stamp}
 use Rattle.model.specs.Shape.{Ways, right_lengths, shape_of}
@@ -30,7 +29,7 @@ module _ (W : Ways) where
     pub real : x ≢ 0
     pub calm : busy (shape_of W m) m x ≡ false
     pub sound : home_damage (shape_of W m) m x ≡ false
-    pub held_at : held (shape_of W m) m x ≡ some p
+    pub held_at : held (shape_of W m) m x ≡ Some p
     pub marked : stamp m.items p ≡ retired_mark
 
   -- on a well-formed memory every live place with the mark is one

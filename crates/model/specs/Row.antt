@@ -1,7 +1,6 @@
 -- The plain row of places: the same calls over four words a place, with no slots, no tags, no hash and no counters. It is written
 -- apart from the table: its own walk, its own judgement of age, its own CLOCK and its own list. Assumes nothing.
-use Rattle.std.specs.Prelude.{ℕ, zero, suc, ◌+◌, ◌-◌, ◌*◌, ◌/◌, ◌%◌, ◌^◌, Bool, true, false, not, ◌&&◌, List, [], ◌∷◌, ◌++◌, set, replicate, ℤ, pos, neg_ℤ, ◌-ℤ◌, ltb, leb, eqb}
-use Rattle.std.proofs.Math.Option.{Option, none, some}
+use Rattle.std.specs.Prelude.{ℕ, zero, suc, ◌+◌, ◌-◌, ◌*◌, ◌/◌, ◌%◌, ◌^◌, Bool, true, false, not, ◌&&◌, List, [], ◌∷◌, ◌++◌, set, replicate, ℤ, pos, neg_ℤ, ◌-ℤ◌, ltb, leb, eqb, Option, Some, None}
 use Rattle.std.specs.Int.Signed.{lt_z}
 use Rattle.model.specs.Choice.{choose, one_of}
 use Rattle.model.specs.Memory.{animal, permission, stamp, recent}
@@ -20,8 +19,8 @@ stay l a = record { answer = a; words = l }
 
 -- walk over n places from p on to the first whose number is x; x = 0 looks for a vacant one
 unfoldable pub walk_to : List ℕ → ℕ → ℕ → ℕ → Option ℕ
-walk_to l x zero p = none
-walk_to l x (suc n) p = choose (eqb (animal l p) x) (some p) (walk_to l x n (suc p))
+walk_to l x zero p = None
+walk_to l x (suc n) p = choose (eqb (animal l p) x) (Some p) (walk_to l x n (suc p))
 
 -- the four words of place p are written; the last three; the recent word
 abbrev pub fill : List ℕ → ℕ → ℕ → ℕ → ℕ → ℕ → List ℕ
@@ -59,9 +58,9 @@ abbrev pub passed : List ℕ → ℕ → List ℕ
 passed l p = choose (eqb (animal l p) 0) l (note l p 0)
 
 unfoldable pub row_clock : ℕ → List ℕ → ℕ → ℕ → ℕ → Option Turn
-row_clock M l zero p n = none
+row_clock M l zero p n = None
 row_clock M l (suc f) p n =
-    choose (not (eqb (animal l p) 0) && eqb (recent l p) 0) (some (record { words = l; victim = p; looked = n + 1 }))
+    choose (not (eqb (animal l p) 0) && eqb (recent l p) 0) (Some (record { words = l; victim = p; looked = n + 1 }))
     (row_clock M (passed l p) f ((p + 1) % M) (n + 1))
 
 -- byte number i of a number, counting from the low end; and the first n of them from i on
@@ -95,20 +94,20 @@ module _ (M : ℕ) where
 
   -- read, serve and find, at the place where the walk found the animal
   abbrev pub row_read : List ℕ → ℕ → ℕ → Option ℕ → Answer
-  row_read l limit now none = absent
-  row_read l limit now (some p) = row_says limit now (permission l p) (stamp l p)
+  row_read l limit now None = absent
+  row_read l limit now (Some p) = row_says limit now (permission l p) (stamp l p)
 
   abbrev pub row_serve : List ℕ → ℕ → ℕ → Option ℕ → Row
-  row_serve l limit now none = stay l absent
-  row_serve l limit now (some p) =
+  row_serve l limit now None = stay l absent
+  row_serve l limit now (Some p) =
       record {
-        answer = row_read l limit now (some p);
-        words = choose (says_fresh (row_read l limit now (some p))) (note l p 1) l;
+        answer = row_read l limit now (Some p);
+        words = choose (says_fresh (row_read l limit now (Some p))) (note l p 1) l;
       }
 
   abbrev pub row_find : Option ℕ → Answer
-  row_find none = absent
-  row_find (some p) = at_place p
+  row_find None = absent
+  row_find (Some p) = at_place p
 
   -- refusal 3 of a set: now is 2^64 - 1, or issued later than now
   abbrev pub row_bad_grant : Grant → Bool
@@ -120,24 +119,24 @@ module _ (M : ℕ) where
 
   -- set: a row can't know whether the table has room for a new entry, so it is told: `told` is 6 if it has none
   abbrev pub row_new : ℕ → List ℕ → Grant → Option ℕ → Row
-  row_new told l g none = stay l (refused 5)
-  row_new told l g (some p) =
+  row_new told l g None = stay l (refused 5)
+  row_new told l g (Some p) =
       choose (eqb told 6) (stay l (refused 6))
       (record { answer = stored 0 0; words = fill l p g.animal g.permission g.issued 1 })
 
   abbrev pub row_set : ℕ → List ℕ → Grant → Option ℕ → Row
-  row_set told l g none = row_new told l g (walk_to l 0 M 0)
-  row_set told l g (some p) =
+  row_set told l g None = row_new told l g (walk_to l 0 M 0)
+  row_set told l g (Some p) =
       choose (row_late (stamp l p) g) (stay l (refused 11)) (record { answer = stored 0 0; words = renew l p g.permission g.issued })
 
   -- plan: 12 for an animal that is held; else the place that a set would fill. Moves and slots are no words of a row
   abbrev pub row_plan_new : ℕ → Option ℕ → Answer
-  row_plan_new told none = refused 5
-  row_plan_new told (some p) = choose (eqb told 6) (refused 6) (planned [] p 0)
+  row_plan_new told None = refused 5
+  row_plan_new told (Some p) = choose (eqb told 6) (refused 6) (planned [] p 0)
 
   abbrev pub row_plan : ℕ → List ℕ → Option ℕ → Answer
-  row_plan told l none = row_plan_new told (walk_to l 0 M 0)
-  row_plan told l (some p) = refused 12
+  row_plan told l None = row_plan_new told (walk_to l 0 M 0)
+  row_plan told l (Some p) = refused 12
 
   -- a move leaves the row alone, and all that it hangs on is the slots: `told` is 12 if it was not made
   abbrev pub row_move : ℕ → Answer
@@ -146,19 +145,19 @@ module _ (M : ℕ) where
   -- the final store fills the planned place: 12 for an animal that is held and for a place that is not there or not vacant, and where
   -- `told` is 12, for the slot
   abbrev pub row_enter : ℕ → List ℕ → Grant → ℕ → Option ℕ → Row
-  row_enter told l g p (some q) = stay l (refused 12)
-  row_enter told l g p none =
+  row_enter told l g p (Some q) = stay l (refused 12)
+  row_enter told l g p None =
       choose (leb M p) (stay l (refused 12))
       (choose (not (eqb (animal l p) 0)) (stay l (refused 12))
       (choose (eqb told 12) (stay l (refused 12)) (record { answer = entry_made; words = fill l p g.animal g.permission g.issued 1 })))
 
   abbrev pub row_delete : List ℕ → Option ℕ → Row
-  row_delete l none = stay l (refused 7)
-  row_delete l (some p) = record { answer = deleted; words = fill l p 0 0 0 0 }
+  row_delete l None = stay l (refused 7)
+  row_delete l (Some p) = record { answer = deleted; words = fill l p 0 0 0 0 }
 
   abbrev pub row_evict : List ℕ → Option Turn → Row
-  row_evict l none = stay l (refused 10)
-  row_evict l (some t) =
+  row_evict l None = stay l (refused 10)
+  row_evict l (Some t) =
       record {
         answer = evicted (animal l t.victim) t.looked ((t.victim + 1) % M);
         words = fill t.words t.victim 0 0 0 0;

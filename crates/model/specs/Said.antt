@@ -1,95 +1,105 @@
 -- What each case of the code's answers says: one of document 01's answers, and so the paper's number and values. Assumes nothing.
-use Rattle.std.specs.Prelude.{ℕ, ◌*◌, List, ◌++◌, length, take, drop}
+use Rattle.std.specs.Prelude.{ℕ, ◌*◌, Option, Some, None, Result, Ok, Err, List, ◌++◌, length, take, drop, eqb}
 use Rattle.model.specs.Choice.{choose}
 use Rattle.model.specs.Moves.{four_records}
 use Rattle.model.specs.Answers.{is, paper, value, moves_told, Answer, refused, absent, fresh, old, ahead, stored, deleted, evicted, started, listed, at_place, planned, move_made, entry_made}
+use Rattle.model.specs.declared.Refusal.{Refusal}
+use Rattle.model.specs.declared.Refusal.TheVariants as refusal
 use Rattle.model.specs.declared.Reading.{Reading}
 use Rattle.model.specs.declared.Reading.TheVariants as reading
-use Rattle.model.specs.declared.Finding.{Finding}
-use Rattle.model.specs.declared.Finding.TheVariants as finding
-use Rattle.model.specs.declared.Setting.{Setting}
-use Rattle.model.specs.declared.Setting.TheVariants as setting
+use Rattle.model.specs.declared.Stored.{Stored}
 use Rattle.model.specs.declared.Plan.{Plan}
-use Rattle.model.specs.declared.Planning.{Planning}
-use Rattle.model.specs.declared.Planning.TheVariants as planning
-use Rattle.model.specs.declared.MoveRecord.{MoveRecord}
-use Rattle.model.specs.declared.Stepping.{Stepping}
-use Rattle.model.specs.declared.Stepping.TheVariants as stepping
-use Rattle.model.specs.declared.Deleting.{Deleting}
-use Rattle.model.specs.declared.Deleting.TheVariants as deleting
-use Rattle.model.specs.declared.Evicting.{Evicting}
-use Rattle.model.specs.declared.Evicting.TheVariants as evicting
-use Rattle.model.specs.declared.Listing.{Listing}
-use Rattle.model.specs.declared.Listing.TheVariants as list
-use Rattle.model.specs.declared.Starting.{Starting}
-use Rattle.model.specs.declared.Starting.TheVariants as starting
+use Rattle.model.specs.declared.Evicted.{Evicted}
+
+-- the number of a refusal
+abbrev pub refusal_number : Refusal → ℕ
+refusal_number refusal.Lengths = 1
+refusal_number refusal.NoAnimal = 2
+refusal_number refusal.Minutes = 3
+refusal_number refusal.Damaged = 4
+refusal_number refusal.NoPlace = 5
+refusal_number refusal.NoRoom = 6
+refusal_number refusal.Absent = 7
+refusal_number refusal.Busy = 8
+refusal_number refusal.ShortBuffer = 9
+refusal_number refusal.NoVictim = 10
+refusal_number refusal.Late = 11
+refusal_number refusal.NoStep = 12
+
+-- and the refusal of such a number: the last stands for any other
+abbrev pub refusal_of : ℕ → Refusal
+refusal_of n =
+    choose (eqb n 1) refusal.Lengths (choose (eqb n 2) refusal.NoAnimal (choose (eqb n 3) refusal.Minutes
+    (choose (eqb n 4) refusal.Damaged (choose (eqb n 5) refusal.NoPlace (choose (eqb n 6) refusal.NoRoom
+    (choose (eqb n 7) refusal.Absent (choose (eqb n 8) refusal.Busy (choose (eqb n 9) refusal.ShortBuffer
+    (choose (eqb n 10) refusal.NoVictim (choose (eqb n 11) refusal.Late refusal.NoStep))))))))))
+
+-- a call's answer, by what a success says
+abbrev pub said_by : {A : Type 0} → (A → Answer) → Result A Refusal → Answer
+said_by f (Ok a) = f a
+said_by f (Err r) = refused (refusal_number r)
 
 -- read, serve and the plain engine
-abbrev pub said_reading : Reading → Answer
-said_reading reading.Absent = absent
-said_reading (reading.Fresh v z) = fresh v z
-said_reading (reading.Old z) = old z
-said_reading reading.Ahead = ahead
-said_reading (reading.Refused n) = refused n
+abbrev pub read_as : Reading → Answer
+read_as reading.Absent = absent
+read_as (reading.Fresh v z) = fresh v z
+read_as (reading.Old z) = old z
+read_as reading.Ahead = ahead
+
+abbrev pub said_reading : Result Reading Refusal → Answer
+said_reading r = said_by read_as r
 
 -- find
-abbrev pub said_finding : Finding → Answer
-said_finding finding.Absent = absent
-said_finding (finding.At p) = at_place p
-said_finding (finding.Refused n) = refused n
+abbrev pub found_at : Option ℕ → Answer
+found_at None = absent
+found_at (Some p) = at_place p
+
+abbrev pub said_finding : Result (Option ℕ) Refusal → Answer
+said_finding r = said_by found_at r
 
 -- set
-abbrev pub said_setting : Setting → Answer
-said_setting (setting.Stored v n) = stored v n
-said_setting (setting.Refused n) = refused n
+abbrev pub said_setting : Result Stored Refusal → Answer
+said_setting r = said_by (λ (b : Stored). stored b.visits b.moves) r
 
--- plan, from the answer to the code's: a refusal has nothing beside its number
-abbrev pub plan_of : Answer → Plan
+-- plan, from the answer to the code's
+abbrev pub plan_of : Answer → Result Plan Refusal
 plan_of a =
-    record {
-      told = choose (is 10 a) planning.Planned (planning.Refused (paper a).number);
+    choose (is 10 a)
+    (Ok
+    (record {
       moves = four_records (moves_told a);
       count = length (moves_told a);
       place = value a 1;
       slot = value a 2;
-    }
+    }))
+    (Err (refusal_of (paper a).number))
 
 -- and back: what such a plan says
-abbrev pub said_planning : Planning → List MoveRecord → ℕ → ℕ → Answer
-said_planning planning.Planned vs p i = planned vs p i
-said_planning (planning.Refused n) vs p i = refused n
-
-abbrev pub said_plan : Plan → Answer
-said_plan b = said_planning b.told (take b.count b.moves) b.place b.slot
+abbrev pub said_plan : Result Plan Refusal → Answer
+said_plan r = said_by (λ (b : Plan). planned (take b.count b.moves) b.place b.slot) r
 
 -- a step: a move, or the final store
-abbrev pub said_move : Stepping → Answer
-said_move stepping.Made = move_made
-said_move (stepping.Refused n) = refused n
+abbrev pub said_move : Result Unit Refusal → Answer
+said_move r = said_by (λ _. move_made) r
 
-abbrev pub said_entry : Stepping → Answer
-said_entry stepping.Made = entry_made
-said_entry (stepping.Refused n) = refused n
+abbrev pub said_entry : Result Unit Refusal → Answer
+said_entry r = said_by (λ _. entry_made) r
 
 -- delete
-abbrev pub said_deleting : Deleting → Answer
-said_deleting deleting.Deleted = deleted
-said_deleting (deleting.Refused n) = refused n
+abbrev pub said_deleting : Result Unit Refusal → Answer
+said_deleting r = said_by (λ _. deleted) r
 
 -- evict, with the hand that came back
-abbrev pub said_evicting : Evicting → ℕ → Answer
-said_evicting (evicting.Evicted x n) h = evicted x n h
-said_evicting (evicting.Refused n) h = refused n
+abbrev pub said_evicting : Result Evicted Refusal → ℕ → Answer
+said_evicting r h = said_by (λ (b : Evicted). evicted b.victim b.looked h) r
 
 -- the list, with the buffer afterwards: 20 bytes a record
-abbrev pub said_listing : Listing → List ℕ → Answer
-said_listing (list.Listed n) buffer = listed n (take (20 * n) buffer)
-said_listing (list.Refused n) buffer = refused n
+abbrev pub said_listing : Result ℕ Refusal → List ℕ → Answer
+said_listing r buffer = said_by (λ (n : ℕ). listed n (take (20 * n) buffer)) r
 
 -- fresh
-abbrev pub said_starting : Starting → Answer
-said_starting starting.Started = started
-said_starting (starting.Refused n) = refused n
+abbrev pub said_starting : Result Unit Refusal → Answer
+said_starting r = said_by (λ _. started) r
 
 -- the buffer after the list: its bytes in front, and what stood behind them as it was
 abbrev pub listed_into : Answer → List ℕ → List ℕ

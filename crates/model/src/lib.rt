@@ -1,6 +1,18 @@
-// The types that every crate shares: what each call answers. The meaning of document 01, and of the wishes that have landed, stands in specs/,
-// the proofs in proofs/.
+// The types that every crate shares: the runs that a call is lent, what it answers, and why it refuses. The meaning of document 01, and of
+// the wishes that have landed, stands in specs/, the proofs in proofs/.
 #![tactic(auto)]
+
+ghost use Rattle.std.specs.Prelude.{◌≡◌};
+ghost use Rattle.model.specs.Said.{refusal_number};
+
+// The three lent runs, for a look: slots, counters, items. Runs that are stored to are passed one by one: a struct round a `&mut` would need
+// a clause on the name of each in every contract.
+#[derive(Clone, Copy)]
+pub struct Table<'a> {
+    pub slots: &'a [u32],
+    pub counters: &'a [u32],
+    pub items: &'a [u64],
+}
 
 // What a set takes: the minute of issue and the minute of the call beside the animal and its permission.
 #[derive(Clone, Copy)]
@@ -20,6 +32,38 @@ pub struct MoveRecord {
     pub to: usize,
 }
 
+// The empty record, behind the last move of a plan.
+pub const NO_MOVE: MoveRecord = MoveRecord {
+    from: 0,
+    tag: 0,
+    to: 0,
+};
+
+// Why a call refuses, by document 01's numbers and those of wishes 1 and 7.
+#[derive(Clone, Copy, Debug, PartialEq, Eq)]
+pub enum Refusal {
+    Lengths = 1,
+    NoAnimal = 2,
+    Minutes = 3,
+    Damaged = 4,
+    NoPlace = 5,
+    NoRoom = 6,
+    Absent = 7,
+    Busy = 8,
+    ShortBuffer = 9,
+    NoVictim = 10,
+    Late = 11,
+    NoStep = 12,
+}
+
+impl From<Refusal> for u32 {
+    ghost from_gives = { λ refusal n. n ≡ refusal_number refusal };
+
+    fn from(refusal: Refusal) -> u32 {
+        refusal as u32
+    }
+}
+
 // Read, serve and the plain engine: the minutes that are left of the limit, negative when overdue.
 #[derive(Clone, Copy)]
 pub enum Reading {
@@ -27,73 +71,28 @@ pub enum Reading {
     Fresh { permission: u32, left: i64 },
     Old { left: i64 },
     Ahead,
-    Refused(u32),
-}
-
-// Find: the place of the animal.
-#[derive(Clone, Copy)]
-pub enum Finding {
-    Absent,
-    At(usize),
-    Refused(u32),
 }
 
 // Set: the buckets visited and the moves made.
 #[derive(Clone, Copy)]
-pub enum Setting {
-    Stored { visits: usize, moves: usize },
-    Refused(u32),
+pub struct Stored {
+    pub visits: usize,
+    pub moves: usize,
 }
 
-// Plan: whether there is one.
-#[derive(Clone, Copy)]
-pub enum Planning {
-    Planned,
-    Refused(u32),
-}
-
-// A plan: the first `count` of its moves, in the order of making, then the place and the slot of the final store. An enum holds no array,
-// so whether it was refused stands beside.
+// A plan: the first `count` of its moves, in the order of making, then the place and the slot of the final store. A cabinet gets the four
+// records as they are.
 #[derive(Clone, Copy)]
 pub struct Plan {
-    pub told: Planning,
     pub moves: [MoveRecord; 4],
     pub count: usize,
     pub place: usize,
     pub slot: usize,
 }
 
-// A step: one whole move of a plan, or its final store.
-#[derive(Clone, Copy)]
-pub enum Stepping {
-    Made,
-    Refused(u32),
-}
-
-// Delete.
-#[derive(Clone, Copy)]
-pub enum Deleting {
-    Deleted,
-    Refused(u32),
-}
-
 // Evict: the victim's number and the places looked at. The hand comes back beside it.
 #[derive(Clone, Copy)]
-pub enum Evicting {
-    Evicted { victim: u64, looked: usize },
-    Refused(u32),
-}
-
-// The list: how many records were written.
-#[derive(Clone, Copy)]
-pub enum Listing {
-    Listed(usize),
-    Refused(u32),
-}
-
-// Fresh.
-#[derive(Clone, Copy)]
-pub enum Starting {
-    Started,
-    Refused(u32),
+pub struct Evicted {
+    pub victim: u64,
+    pub looked: usize,
 }

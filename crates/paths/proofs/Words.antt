@@ -4,7 +4,7 @@ use native.Mathlib.Omega.{arith}
 use mathlib.Core.Path.{◌≡◌, refl, sym, ap, ◌∙◌}
 use mathlib.Core.Logic.{◌≢◌}
 use mathlib.Core.Bool.{Bool, true, false, ◌||◌}
-use mathlib.Core.Option.{Option, none, some}
+use Rattle.std.specs.Prelude.{Option, Some, None}
 use mathlib.Core.List.{List, [], ◌∷◌, map, Memᴰ as In}
 use lib.ListN.{get_or}
 use lib.Dec.{eqb}
@@ -84,7 +84,7 @@ pub four_words : (T : List ℕ) (b : ℕ) → words_from T (b * 4) ≡ bucket_wo
 four_words T b = ap (map (λ i. get_or T i 0)) (sym (four_slots (b * 4)))
 
 or_four : (a : ℕ) (p q r s : Bool)
-    → there (choose p (some a) (choose q (some (a + 1)) (choose r (some (a + 2)) (choose s (some (a + 3)) none)))) ≡ (p || (q || (r || s)))
+    → there (choose p (Some a) (choose q (Some (a + 1)) (choose r (Some (a + 2)) (choose s (Some (a + 3)) None)))) ≡ (p || (q || (r || s)))
 or_four a true q r s = refl
 or_four a false true r s = refl
 or_four a false false true s = refl

@@ -3,7 +3,7 @@ use Prim.Native.Nat.{ℕ, ◌+◌, ◌*◌, ◌<◌, suc, ◌≤◌, zero}
 use native.Mathlib.Omega.{arith}
 use mathlib.Core.Path.{◌≡◌, refl, sym}
 use mathlib.Core.Bool.{true, false}
-use mathlib.Core.Option.{Option, none, some}
+use Rattle.std.specs.Prelude.{Option, Some, None}
 use mathlib.Core.List.{List}
 use lib.Dec.{eqb, leb}
 use Rattle.model.specs.Choice.{choose, range, there}
@@ -21,8 +21,8 @@ use Rattle.places.specs.declared.Place.TheVariants.{At}
 
 -- a victim was found at no more than k places looked at
 abbrev AtMost : ℕ → Option Victim → Type 0
-AtMost k none = Unit {0}
-AtMost k (some v) = v.looked ≤ k
+AtMost k None = Unit {0}
+AtMost k (Some v) = v.looked ≤ k
 
 at_most : (m : ℕ) (l : List ℕ) (f h n : ℕ) → AtMost (n + f) (seek_victim m l f h n)
 unfolding seek_victim
@@ -30,7 +30,7 @@ at_most m l zero h n = tt
 at_most m l (suc f) h n =
     let e : n + suc f ≡ n + 1 + f = omega arith in
     let k : n + 1 ≤ n + suc f = omega arith in
-    bool (λ b. AtMost (n + suc f) (choose b (some (record { place = h; looked = n + 1 })) (seek_victim m l f (next_hand m h) (n + 1))))
+    bool (λ b. AtMost (n + suc f) (choose b (Some (record { place = h; looked = n + 1 })) (seek_victim m l f (next_hand m h) (n + 1))))
     (takes (live l h) (is_recent l h) (leb m n))
     (λ t. k) λ t. rw e (at_most m l f (next_hand m h) (n + 1))
 
@@ -41,10 +41,10 @@ pub record Within (m : ℕ) (l : List ℕ) (v : Victim) : Type 0 where
   pub looked_some : 1 ≤ v.looked
   pub looked_most : v.looked ≤ 2 * m
 
-pub victim_within : (m : ℕ) (l : List ℕ) (hand : ℕ) {v : Victim} → hand < m → victim m l hand ≡ some v → Within m l v
+pub victim_within : (m : ℕ) (l : List ℕ) (hand : ℕ) {v : Victim} → hand < m → victim m l hand ≡ Some v → Within m l v
 victim_within m l hand {v} hm e = go (sought m l (2 * m) hand 0 hm) (at_most m l (2 * m) hand 0) e
   where
-    go : {o : Option Victim} → Sought m l 0 o → AtMost (0 + 2 * m) o → o ≡ some v → Within m l v
+    go : {o : Option Victim} → Sought m l 0 o → AtMost (0 + 2 * m) o → o ≡ Some v → Within m l v
     go nobody a e = let z : ◌≡◌ {A = ℕ} 0 1 = cc in absurd (omega arith)
     go (somebody {v = w} i lv k) a e =
         let f : w ≡ v = cc in rw (← f) (record { below = i; alive = lv; looked_some = omega arith; looked_most = omega arith })
@@ -58,7 +58,7 @@ live_one m l p below alive = go (first_is (live l) (range 0 m))
     go (found q t) = refl
     go (missing h) = true_false (live_true l p alive) (h p (range_in 0 m (omega arith) (omega arith)))
 
-live_none : (m : ℕ) (l : List ℕ) (hand : ℕ) → hand < m → victim m l hand ≡ none → some_live m l ≡ false
+live_none : (m : ℕ) (l : List ℕ) (hand : ℕ) → hand < m → victim m l hand ≡ None → some_live m l ≡ false
 unfolding some_live
 live_none m l hand hm e = go (first_is (live l) (range 0 m))
   where
@@ -68,10 +68,10 @@ live_none m l hand hm e = go (first_is (live l) (range 0 m))
 
 -- the same of the code's answer
 module _ (m : ℕ) (l : List ℕ) (hand : ℕ) {r : Scan} (e : scanned r ≡ victim m l hand) where
-  pub scan_victim : {p n : ℕ} → r ≡ Taken p n → victim m l hand ≡ some (record { place = p; looked = n })
+  pub scan_victim : {p n : ℕ} → r ≡ Taken p n → victim m l hand ≡ Some (record { place = p; looked = n })
   scan_victim q = sym (rw q at e)
 
-  pub scan_nobody : r ≡ Nobody → victim m l hand ≡ none
+  pub scan_nobody : r ≡ Nobody → victim m l hand ≡ None
   scan_nobody q = sym (rw q at e)
 
   pub scan_within : {p n : ℕ} → hand < m → r ≡ Taken p n → Within m l (record { place = p; looked = n })
@@ -87,7 +87,7 @@ module _ (m : ℕ) (l : List ℕ) (hand : ℕ) {r : Scan} (e : scanned r ≡ vic
 pub place_within : (m : ℕ) (l : List ℕ) (x : ℕ) {p : ℕ} {r : Place} → place_found r ≡ first_with m l x → r ≡ At p → p < m
 place_within m l x {p} e q = go (first_is (λ q. eqb (animal l q) x) (range 0 m)) (sym (rw q at e))
   where
-    go : {o : Option ℕ} → First (λ q. eqb (animal l q) x) (range 0 m) o → o ≡ some p → p < m
+    go : {o : Option ℕ} → First (λ q. eqb (animal l q) x) (range 0 m) o → o ≡ Some p → p < m
     go (found {i = i} q t) e = let f : i ≡ p = cc in omega (arith, in_range 0 m q)
     go (missing h) e = let z : ◌≡◌ {A = ℕ} 0 1 = cc in absurd (omega arith)
 

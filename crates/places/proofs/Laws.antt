@@ -6,7 +6,7 @@ use native.Mathlib.Decide.{dec_lt}
 use mathlib.Core.Path.{◌≡◌, refl, sym, ◌∙◌}
 use mathlib.Core.Logic.{◌≢◌, dite}
 use mathlib.Core.Bool.{Bool, true, false, not, ◌&&◌, ◌||◌}
-use mathlib.Core.Option.{Option, none, some}
+use Rattle.std.specs.Prelude.{Option, Some, None}
 use mathlib.Core.List.{List}
 use lib.ListN.{get_or}
 use lib.Dec.{eqb, leb}
@@ -53,7 +53,7 @@ look_first l e = record { upto = omega arith; within = e; same = rw sub-zero }
 
 module _ {m hand h n : ℕ} {l : List ℕ} (s : Looking m l hand h n) where
   look : n < 2 * m → seek_victim m l (2 * m - n) h n
-      ≡ choose (is_taken m l h n) (some (record { place = h; looked = n + 1 })) (seek_victim m l (2 * m - (n + 1)) (next_hand m h) (n + 1))
+      ≡ choose (is_taken m l h n) (Some (record { place = h; looked = n + 1 })) (seek_victim m l (2 * m - (n + 1)) (next_hand m h) (n + 1))
   unfolding seek_victim
   look e =
       let f : 2 * m - n ≡ suc (2 * m - (n + 1)) = omega arith in
@@ -72,14 +72,14 @@ module _ {m hand h n : ℕ} {l : List ℕ} (s : Looking m l hand h n) where
 
 -- a walk from place p on, to the first that passes a test
 module _ (f : ℕ → Bool) (m p : ℕ) where
-  first_on : p < m → first f (range p (m - p)) ≡ choose (f p) (some p) (first f (range (p + 1) (m - (p + 1))))
+  first_on : p < m → first f (range p (m - p)) ≡ choose (f p) (Some p) (first f (range (p + 1) (m - (p + 1))))
   unfolding first range
   first_on h =
       let e : m - p ≡ suc (m - (p + 1)) = omega arith in
       let s : p + 1 ≡ suc p = omega arith in
       rw (e, s)
 
-  first_end : m ≤ p → first f (range p (m - p)) ≡ none
+  first_end : m ≤ p → first f (range p (m - p)) ≡ None
   unfolding first range
   first_end h = let e : m - p ≡ 0 = omega arith in rw e
 

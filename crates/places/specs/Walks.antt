@@ -1,6 +1,5 @@
 -- What the code's answers say, in the words of the definitions, and the parts of a walk over the places. Assumes nothing.
-use Rattle.std.specs.Prelude.{ℕ, ◌+◌, suc, ◌-◌, zero, Bool, true, not, ◌&&◌, List, eqb}
-use Rattle.std.proofs.Math.Option.{Option, none, some}
+use Rattle.std.specs.Prelude.{ℕ, ◌+◌, suc, ◌-◌, zero, Bool, true, not, ◌&&◌, List, eqb, Option, Some, None}
 use Rattle.model.specs.Choice.{first, range}
 use Rattle.model.specs.Memory.{animal}
 use Rattle.model.specs.Clock.{Victim}
@@ -11,13 +10,13 @@ use Rattle.places.specs.declared.Place.TheVariants.{At, Nowhere}
 
 -- the victim that the code found
 abbrev pub scanned : Scan → Option Victim
-scanned (Taken p n) = some (record { place = p; looked = n })
-scanned Nobody = none
+scanned (Taken p n) = Some (record { place = p; looked = n })
+scanned Nobody = None
 
 -- the place that the code found
 abbrev pub place_found : Place → Option ℕ
-place_found (At p) = some p
-place_found Nowhere = none
+place_found (At p) = Some p
+place_found Nowhere = None
 
 -- place q has another number than x; none of the n places from p on has x
 abbrev pub without : List ℕ → ℕ → ℕ → Bool

@@ -5,7 +5,7 @@ use native.Mathlib.Decide.{ℕ_discrete}
 use mathlib.Core.Path.{◌≡◌, refl, sym, ap, subst, ◌∙◌}
 use mathlib.Core.Logic.{◌≢◌, dite}
 use mathlib.Core.Bool.{Bool, true, false}
-use mathlib.Core.Option.{Option, none, some}
+use Rattle.std.specs.Prelude.{Option, Some, None}
 use mathlib.Core.List.{List, [], ◌∷◌}
 use lib.ListN.{length}
 use lib.Dec.{eqb, ltb}
@@ -30,7 +30,7 @@ use Rattle.plain.specs.Plain.{plain_read}
 use Rattle.plain.specs.Owed.{Answered, PlainFresh, PlainRetired, PlainSays}
 
 -- a walk over n places from s on comes to the first place with the number
-to_first : (l : List ℕ) (x p n s : ℕ) → s ≤ p → p < s + n → animal l p ≡ x → ((q : ℕ) → q < p → animal l q ≢ x) → walk_to l x n s ≡ some p
+to_first : (l : List ℕ) (x p n s : ℕ) → s ≤ p → p < s + n → animal l p ≡ x → ((q : ℕ) → q < p → animal l q ≢ x) → walk_to l x n s ≡ Some p
 unfolding walk_to
 to_first l x p zero s a b e h = absurd (omega arith)
 to_first l x p (suc n) s a b e h =
@@ -38,10 +38,10 @@ to_first l x p (suc n) s a b e h =
     λ ne. rw (ne_eqb (animal l s) x (h s (omega arith))) (to_first l x p n (suc s) (omega arith) (omega arith) e h)
 
 -- or to its end
-to_nowhere : (l : List ℕ) (x n : ℕ) → ((p : ℕ) → p < n → animal l p ≢ x) → walk_to l x n 0 ≡ none
+to_nowhere : (l : List ℕ) (x n : ℕ) → ((p : ℕ) → p < n → animal l p ≢ x) → walk_to l x n 0 ≡ None
 to_nowhere l x n h = go (walk_is l x n 0)
   where
-    go : {o : Option ℕ} → First (λ p. eqb (animal l p) x) (range 0 n) o → o ≡ none
+    go : {o : Option ℕ} → First (λ p. eqb (animal l p) x) (range 0 n) o → o ≡ None
     go (found {i = p} q t) = absurd (h p (omega (arith, in_range 0 n q)) (eqb-true (animal l p) x t))
     go (missing _) = refl
 

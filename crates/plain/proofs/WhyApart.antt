@@ -5,7 +5,7 @@ use native.Mathlib.Decide.{ℕ_discrete, dec_lt}
 use mathlib.Core.Path.{◌≡◌, refl, sym, ap, ◌∙◌}
 use mathlib.Core.Logic.{◌≢◌, inl, inr, dite}
 use mathlib.Core.Bool.{Bool, true, false}
-use mathlib.Core.Option.{Option, some}
+use Rattle.std.specs.Prelude.{Option, Some}
 use lib.ListN.{length}
 use lib.Dec.{eqb}
 use borrow.Author.Tests.{eq-eqb, eqb-false, eqb-true}
@@ -50,7 +50,7 @@ module _ (W : Ways) (m : Mem) (x limit now : ℕ) where
       let h = place (word m i) in
       let a : animal m.items h ≡ x = (both_is (tag (word m i)) (Y.tag_of x) (animal m.items h) x t).1 in
       let b : animal m.items p ≡ x = eqb-true (animal m.items p) x t' in
-      dite (ℕ_discrete p h) (λ k. inl (e' ∙ ap (λ (p : ℕ). judge m.items limit now (some p)) k ∙ sym e))
+      dite (ℕ_discrete p h) (λ k. inl (e' ∙ ap (λ (p : ℕ). judge m.items limit now (Some p)) k ∙ sym e))
       λ ne. dite (dec_lt p h) (λ k. inr (twins nz k (inside r nz a) b a)) λ k. inr (twins {p = h} {q = p} nz (omega arith) (inside r nz b) a b)
   at r nz (found {i = i} q t) (missing h) e e' =
       let p = place (word m i) in

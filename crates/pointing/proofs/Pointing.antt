@@ -4,7 +4,7 @@ use native.Mathlib.Omega.{arith}
 use mathlib.Core.Path.{◌≡◌, refl, sym, ap, ◌∙◌}
 use mathlib.Core.Logic.{◌≢◌}
 use mathlib.Core.Bool.{Bool, true, false, not, ◌&&◌, ◌||◌}
-use mathlib.Core.Option.{some}
+use Rattle.std.specs.Prelude.{Some}
 use mathlib.Core.List.{List, [], ◌∷◌, map}
 use lib.ListN.{length, get_or}
 use lib.Dec.{eqb}
@@ -47,7 +47,7 @@ any_map : (f : ℕ → Bool) (g : ℕ → ℕ) (is : List ℕ) → any f (map g 
 unfolding first
 any_map f g [] = refl
 any_map f g (i ∷ is) =
-    bool (λ b. there (choose b (some (g i)) (first f (map g is))) ≡ there (choose b (some i) (first (λ i. f (g i)) is))) (f (g i)) (λ e. refl) λ e. any_map f g is
+    bool (λ b. there (choose b (Some (g i)) (first f (map g is))) ≡ there (choose b (Some i) (first (λ i. f (g i)) is))) (f (g i)) (λ e. refl) λ e. any_map f g is
 
 -- a place's number fits 32 bits
 pub place_fits : (m : Mem) (p : ℕ) → right_lengths four m ≡ true → 4 * p + 3 < length m.items → p < 2 ^ 32

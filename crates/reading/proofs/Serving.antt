@@ -3,7 +3,7 @@ use Prim.Native.Nat.{ℕ, ◌+◌, ◌*◌, ◌%◌, ◌/◌}
 use mathlib.Core.Path.{◌≡◌, refl, sym, ap, ◌∙◌}
 use mathlib.Core.Logic.{◌≢◌}
 use mathlib.Core.Bool.{Bool, true, false, not}
-use mathlib.Core.Option.{Option, some}
+use Rattle.std.specs.Prelude.{Option, Some}
 use mathlib.Core.List.{List, [], ◌∷◌}
 use lib.ListN.{length, get_or, set}
 use lib.Dec.{eqb}
@@ -61,13 +61,13 @@ module _ (W : Ways) (m : Mem) (x limit now : ℕ) where
         pub serve_absent : w ≡ 0 → WholeAs W m the_serve m absent
         serve_absent z = only_told (seen_absent W m x (bad_time limit now) p served hs odd calm words places damage sound hit z)
 
-        pub serve_at_word : w ≢ 0 → lent_call W m the_serve ≡ served (some (w % 65536))
+        pub serve_at_word : w ≢ 0 → lent_call W m the_serve ≡ served (Some (w % 65536))
         unfolding place
         serve_at_word nz = seen_held W m x (bad_time limit now) p served hs odd calm words places damage sound hit nz
 
   -- the place of the hit is judged, and marked if that says fresh
   pub serve_held : (q : ℕ) (r : Reading) {f : Bool} {items' : List ℕ} → said_reading r ≡ verdict limit now (permission m.items q) (stamp m.items q)
-      → f ≡ says_fresh (said_reading r) → items' ≡ choose f (set m.items (4 * q + 3) 1) m.items → lent_call W m the_serve ≡ served (some q)
+      → f ≡ says_fresh (said_reading r) → items' ≡ choose f (set m.items (4 * q + 3) 1) m.items → lent_call W m the_serve ≡ served (Some q)
       → WholeAs W m the_serve (mem m.slots m.counters items') (said_reading r)
   serve_held q r {f} {items'} e ef ei at =
       record {

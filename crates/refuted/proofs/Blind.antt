@@ -6,7 +6,7 @@ use native.Mathlib.Decide.{ℕ_discrete, dec_le}
 use mathlib.Core.Path.{◌≡◌, refl, sym, ap, ◌∙◌, subst}
 use mathlib.Core.Logic.{◌≢◌, ◌⊎◌, inl, inr, ⊎_elim, dite}
 use mathlib.Core.Bool.{true, false}
-use mathlib.Core.Option.{some}
+use Rattle.std.specs.Prelude.{Some}
 use mathlib.Core.List.{List, [], ◌∷◌, append-nil}
 use lib.IntN.{ℤ}
 use lib.ListN.{length, take, replicate}
@@ -270,7 +270,7 @@ module _ (W : Ways) where
         same_words = λ s. over s (λ m l. m.items ≡ l) ((our_row W).same_words s);
         fresh_only = freshes;
         cut_reads = λ s c t h. cuts s c t;
-        no_search = λ s q good p. over s (λ m l. walk_to l q.animal (places W s) 0 ≡ some p → row_late (places W s) (stamp l p) q ≡ false
+        no_search = λ s q good p. over s (λ m l. walk_to l q.animal (places W s) 0 ≡ Some p → row_late (places W s) (stamp l p) q ≡ false
             → O.answer m (did (set_animal q)) ≡ stored 0 0) ((our_row W).no_search s q good p);
       }
 

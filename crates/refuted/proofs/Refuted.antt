@@ -5,7 +5,7 @@ use native.Mathlib.Decide.{ℕ_discrete}
 use mathlib.Core.Path.{◌≡◌, refl, sym, ap, ◌∙◌, subst}
 use mathlib.Core.Logic.{◌≢◌, inl, ⊎_elim, dite}
 use mathlib.Core.Bool.{true, false}
-use mathlib.Core.Option.{none, some}
+use Rattle.std.specs.Prelude.{Some, None}
 use mathlib.Core.List.{List, [], ◌∷◌, ◌++◌}
 use lib.ListN.{get_or, replicate}
 use lib.IntN.{ℤ, nat_abs, pos}
@@ -286,12 +286,12 @@ unfolding computing
 four_row = refl
 
 -- the row does not hold animal 9
-nine_absent : walk_to four_held.items 9 (places four four_in) 0 ≡ none
+nine_absent : walk_to four_held.items 9 (places four four_in) 0 ≡ None
 unfolding computing
 nine_absent = refl
 
 -- and has a vacant place
-place_vacant : walk_to four_held.items 0 (places four four_in) 0 ≡ some 4
+place_vacant : walk_to four_held.items 0 (places four four_in) 0 ≡ Some 4
 unfolding computing
 place_vacant = refl
 
@@ -337,7 +337,7 @@ unfolding computing
 swapped_eight = refl
 
 -- there animal 1 is in place 0
-one_held : walk_to eight_held.items 1 (places four eight_in) 0 ≡ some 0
+one_held : walk_to eight_held.items 1 (places four eight_in) 0 ≡ Some 0
 unfolding computing
 one_held = refl
 

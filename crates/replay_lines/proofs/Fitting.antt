@@ -5,7 +5,7 @@ use native.Mathlib.Omega.{arith}
 use mathlib.Core.Path.{◌≡◌, refl, sym, ap, ◌∙◌}
 use mathlib.Core.Logic.{◌≢◌}
 use mathlib.Core.Bool.{Bool, true, false}
-use mathlib.Core.Option.{Option, none, some}
+use Rattle.std.specs.Prelude.{Option, Some, None}
 use mathlib.Core.List.{List, [], ◌∷◌}
 use lib.ListN.{length, drop, length-set, set}
 use lib.Dec.{eqb}
@@ -25,38 +25,38 @@ use Rattle.replay_lines.specs.declared.Taken.TheVariants as taken
 
 -- a number, or none
 module _ (top : ℕ) (w : List ℕ) {r : Number} (e : number_told r ≡ number top w) where
-  pub take_value : {n : ℕ} → r ≡ number.Value n → some (n ∷ []) ≡ alone (number top w)
+  pub take_value : {n : ℕ} → r ≡ number.Value n → Some (n ∷ []) ≡ alone (number top w)
   take_value q = ap (λ (x : Number). alone (number_told x)) (sym q) ∙ ap alone e
 
-  pub take_not : r ≡ number.Not → none ≡ alone (number top w)
+  pub take_not : r ≡ number.Not → None ≡ alone (number top w)
   take_not q = ap (λ (x : Number). alone (number_told x)) (sym q) ∙ ap alone e
 
 -- the largest number that a word takes, in the order of the tests
 module _ (p : List ℕ) {t₁ : Bool} (e₁ : t₁ ≡ same p (78 ∷ [])) where
-  pub bound_number : t₁ ≡ true → some 18446744073709551615 ≡ bound p
+  pub bound_number : t₁ ≡ true → Some 18446744073709551615 ≡ bound p
   unfolding bound
   bound_number y = rw (sym e₁ ∙ y)
 
   module _ {t₂ : Bool} (n₁ : t₁ ≡ false) (e₂ : t₂ ≡ same p (80 ∷ [])) where
-    pub bound_permission : t₂ ≡ true → some 4294967295 ≡ bound p
+    pub bound_permission : t₂ ≡ true → Some 4294967295 ≡ bound p
     unfolding bound
     bound_permission y = rw (sym e₁ ∙ n₁, sym e₂ ∙ y)
 
     module _ {t₃ : Bool} (n₂ : t₂ ≡ false) (e₃ : t₃ ≡ same p (66 ∷ [])) where
-      pub bound_buffer : t₃ ≡ true → some 81920 ≡ bound p
+      pub bound_buffer : t₃ ≡ true → Some 81920 ≡ bound p
       unfolding bound
       bound_buffer y = rw (sym e₁ ∙ n₁, sym e₂ ∙ n₂, sym e₃ ∙ y)
 
-      pub bound_none : t₃ ≡ false → none ≡ bound p
+      pub bound_none : t₃ ≡ false → None ≡ bound p
       unfolding bound
       bound_none n₃ = rw (sym e₁ ∙ n₁, sym e₂ ∙ n₂, sym e₃ ∙ n₃)
 
 -- a name
 module _ (p w : List ℕ) {t : Bool} (e : t ≡ same p w) where
-  pub take_itself : t ≡ true → some [] ≡ taken_up_to none p w
+  pub take_itself : t ≡ true → Some [] ≡ taken_up_to None p w
   take_itself y = rw (sym e ∙ y)
 
-  pub take_other : t ≡ false → none ≡ taken_up_to none p w
+  pub take_other : t ≡ false → None ≡ taken_up_to None p w
   take_other n = rw (sym e ∙ n)
 
 -- a word by its bound
@@ -65,7 +65,7 @@ module _ (p w : List ℕ) {r : Number} (e : number_told r ≡ bound p) where
   unfolding taken
   take_number y q = q ∙ ap (λ (b : Option ℕ). taken_up_to b p w) (sym (ap number_told y) ∙ e)
 
-  pub take_name : {o : Option (List ℕ)} → r ≡ number.Not → o ≡ taken_up_to none p w → o ≡ taken p w
+  pub take_name : {o : Option (List ℕ)} → r ≡ number.Not → o ≡ taken_up_to None p w → o ≡ taken p w
   unfolding taken
   take_name y q = q ∙ ap (λ (b : Option ℕ). taken_up_to b p w) (sym (ap number_told y) ∙ e)
 
@@ -95,20 +95,20 @@ pub read_first : (row line numbers : List ℕ) → Reading row line numbers numb
 read_first row line numbers = record { in_row = omega arith; in_line = omega arith; few = omega arith; long = refl; ahead = refl }
 
 -- what one word took goes before the rest
-both_word : (l : List ℕ) (n : ℕ) (o : Option (List ℕ)) → stored l n (both (some []) o) ≡ stored l n o
-both_word l n none = refl
-both_word l n (some ns) = refl
+both_word : (l : List ℕ) (n : ℕ) (o : Option (List ℕ)) → stored l n (both (Some []) o) ≡ stored l n o
+both_word l n None = refl
+both_word l n (Some ns) = refl
 
-both_number : (l : List ℕ) (n v : ℕ) (o : Option (List ℕ)) → stored l n (both (some (v ∷ [])) o) ≡ stored (set l n v) (n + 1) o
-both_number l n v none = refl
-both_number l n v (some ns) = rw add-one
+both_number : (l : List ℕ) (n v : ℕ) (o : Option (List ℕ)) → stored l n (both (Some (v ∷ [])) o) ≡ stored (set l n v) (n + 1) o
+both_number l n v None = refl
+both_number l n v (Some ns) = rw add-one
 
 module _ {row line before now : List ℕ} {i j n : ℕ} {p w : Word} (s : Reading row line before now i j n) (next_p : NextWord row i p) (next_w : NextWord line j w) where
   pub read_end : p.start ≡ p.end → Fits row line before now (eqb w.start w.end)
   unfolding fitting
   read_end e =
       record {
-        fits = bool (λ t. choose t (some now) none ≡ stored now n (fitting (words (drop i row)) (words (drop j line)))) (eqb w.start w.end)
+        fits = bool (λ t. choose t (Some now) None ≡ stored now n (fitting (words (drop i row)) (words (drop j line)))) (eqb w.start w.end)
             (λ q. rw (next_p.none_left e, next_w.none_left (eqb-true w.start w.end q)))
             (λ q. rw (next_p.none_left e, next_w.next_word (eqb-false w.start w.end q)))
             ∙ s.ahead;
@@ -118,7 +118,7 @@ module _ {row line before now : List ℕ} {i j n : ℕ} {p w : Word} (s : Readin
     pub read_short : w.start ≡ w.end → Fits row line before now false
     unfolding fitting
     read_short e =
-        let q : stored now n (fitting (words (drop i row)) (words (drop j line))) ≡ none = rw (next_p.next_word ne_p, next_w.none_left e) in
+        let q : stored now n (fitting (words (drop i row)) (words (drop j line))) ≡ None = rw (next_p.next_word ne_p, next_w.none_left e) in
         record { fits = sym q ∙ s.ahead }
 
     module _ (ne_w : w.start ≢ w.end) where

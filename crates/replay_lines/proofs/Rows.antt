@@ -5,7 +5,7 @@ use native.Mathlib.Omega.{arith}
 use mathlib.Core.Path.{◌≡◌, refl, sym, ap, ap₂, ◌∙◌}
 use mathlib.Core.Logic.{◌≢◌}
 use mathlib.Core.Bool.{Bool, true, false}
-use mathlib.Core.Option.{Option, none, some}
+use Rattle.std.specs.Prelude.{Option, Some, None}
 use mathlib.Core.List.{List, [], ◌∷◌}
 use lib.ListN.{length, drop, drop_of_length-le, get_or, length-replicate, replicate, set, take}
 use lib.Seq.{length-take-le, sets, take-length, take-take}
@@ -53,10 +53,10 @@ module _ {rows line before now : List ℕ} {from n : ℕ} (s : Trying rows line 
         ∙ ap₂ (λ (x : Option (List ℕ)) (k : ℕ). or_else x n (first_row (why_not (lines rows) (words line)) k (lines (drop p.next rows)) (words line))) e (sym (add-one n))
 
     module _ {clear after : List ℕ} (c : clear ≡ replicate (length now) 0) where
-      found : (o : Option (List ℕ)) → fitting (words (part rows from p.end)) (words line) ≡ o → some after ≡ stored clear 0 o
+      found : (o : Option (List ℕ)) → fitting (words (part rows from p.end)) (words line) ≡ o → Some after ≡ stored clear 0 o
           → Follows (said_by (lines rows) (words line)) before after n
-      found none q e = let z : ◌≡◌ {A = ℕ} 0 1 = cc in absurd (omega arith)
-      found (some ns) q e =
+      found None q e = let z : ◌≡◌ {A = ℕ} 0 1 = cc in absurd (omega arith)
+      found (Some ns) q e =
           let a : after ≡ sets clear 0 ns = cc in
           record {
             same_row = sym (ap (λ (x : Said). x.row) (step q));
@@ -64,20 +64,20 @@ module _ {rows line before now : List ℕ} {from n : ℕ} (s : Trying rows line 
                 ∙ sym (ap (λ (x : Said). padded (length before) x.numbers) (step q));
           }
 
-      more : (o : Option (List ℕ)) → fitting (words (part rows from p.end)) (words line) ≡ o → none ≡ stored clear 0 o
+      more : (o : Option (List ℕ)) → fitting (words (part rows from p.end)) (words line) ≡ o → None ≡ stored clear 0 o
           → length after ≡ length clear → Trying rows line before after p.next (n + 1)
-      more none q e k =
+      more None q e k =
           record {
             inside = piece.inside;
             few = omega (arith, s.few, piece.goes_on);
             long = k ∙ ap length c ∙ length-replicate (length now) 0 ∙ s.long;
             ahead = sym (step q);
           }
-      more (some ns) q e k = let z : ◌≡◌ {A = ℕ} 0 1 = cc in absurd (omega arith)
+      more (Some ns) q e k = let z : ◌≡◌ {A = ℕ} 0 1 = cc in absurd (omega arith)
 
       module _ {r : Bool} (f : Fits (part rows from p.end) line clear after r) where
-        said_so : {b : Bool} → r ≡ b → choose b (some after) none ≡ stored clear 0 (fitting (words (part rows from p.end)) (words line))
-        said_so y = sym (ap (λ (t : Bool). choose t (some after) none) y) ∙ f.fits
+        said_so : {b : Bool} → r ≡ b → choose b (Some after) None ≡ stored clear 0 (fitting (words (part rows from p.end)) (words line))
+        said_so y = sym (ap (λ (t : Bool). choose t (Some after) None) y) ∙ f.fits
 
         pub try_found : r ≡ true → Follows (said_by (lines rows) (words line)) before after n
         try_found y = found (fitting (words (part rows from p.end)) (words line)) refl (said_so y)

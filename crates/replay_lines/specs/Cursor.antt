@@ -1,6 +1,5 @@
 -- What the code's steps along a line and a table say. Assumes nothing.
-use Rattle.std.specs.Prelude.{ℕ, ◌≤◌, ◌≡◌, Bool, List, [], ◌∷◌, length, take}
-use Rattle.std.proofs.Math.Option.{Option, none, some}
+use Rattle.std.specs.Prelude.{ℕ, ◌≤◌, ◌≡◌, Bool, List, [], ◌∷◌, length, take, Option, Some, None}
 use Rattle.std.proofs.lemmas.List.Edits.{sets}
 use Rattle.model.specs.Choice.{choose}
 use Rattle.replay_words.specs.Words.{without_comment, without_return, words}
@@ -12,18 +11,18 @@ use Rattle.replay_lines.specs.declared.Taken.TheVariants as taken
 
 -- what one word takes, as the code says it
 abbrev pub told : Taken → Option (List ℕ)
-told taken.No = none
-told taken.Word = some []
-told (taken.Number n) = some (n ∷ [])
+told taken.No = None
+told taken.Word = Some []
+told (taken.Number n) = Some (n ∷ [])
 
 -- an array with numbers stored from i on, if there are any to store
 abbrev pub stored : List ℕ → ℕ → Option (List ℕ) → Option (List ℕ)
-stored l i none = none
-stored l i (some ns) = some (sets l i ns)
+stored l i None = None
+stored l i (Some ns) = Some (sets l i ns)
 
 -- whether a line fits a row; then its numbers are stored
 pub record Fits (row line before after : List ℕ) (r : Bool) : Type 0 where
-  pub fits : choose r (some after) none ≡ stored before 0 (fitting (words row) (words line))
+  pub fits : choose r (Some after) None ≡ stored before 0 (fitting (words row) (words line))
 
 -- how far, and why no further
 pub record Parts (a : Parting) (r : Parted) : Type 0 where

@@ -1,6 +1,5 @@
 -- What a line says, by a table of rows. Assumes nothing.
-use Rattle.std.specs.Prelude.{ℕ, suc, List, [], ◌∷◌, ◌++◌, replicate}
-use Rattle.std.proofs.Math.Option.{Option, none, some}
+use Rattle.std.specs.Prelude.{ℕ, suc, List, [], ◌∷◌, ◌++◌, replicate, Option, Some, None}
 use Rattle.std.proofs.lemmas.List.Edits.{sets}
 use Rattle.replay_words.specs.Words.{lines, without_comment, without_return, words}
 use Rattle.replay_lines.specs.Taking.{taken}
@@ -8,15 +7,15 @@ use Rattle.replay_lines.specs.Reasons.{why_not}
 
 -- the numbers of both, if both fit
 abbrev pub both : Option (List ℕ) → Option (List ℕ) → Option (List ℕ)
-both none o = none
-both (some ns) none = none
-both (some ns) (some ms) = some (ns ++ ms)
+both None o = None
+both (Some ns) None = None
+both (Some ns) (Some ms) = Some (ns ++ ms)
 
 -- the numbers of a line whose words are as a row says
 unfoldable pub fitting : (row line : List (List ℕ)) → Option (List ℕ)
-fitting [] [] = some []
-fitting [] (w ∷ ws) = none
-fitting (p ∷ ps) [] = none
+fitting [] [] = Some []
+fitting [] (w ∷ ws) = None
+fitting (p ∷ ps) [] = None
 fitting (p ∷ ps) (w ∷ ws) = both (taken p w) (fitting ps ws)
 
 -- which row a line follows, and its numbers
@@ -26,8 +25,8 @@ pub record Said : Type 0 where
 
 -- row n if it fits, and else what the others say
 abbrev pub or_else : Option (List ℕ) → ℕ → Said → Said
-or_else none n s = s
-or_else (some ns) n s = record { row = n; numbers = ns }
+or_else None n s = s
+or_else (Some ns) n s = record { row = n; numbers = ns }
 
 -- the first of some rows, counted from n on, that fits; with none, their number and the reason y
 unfoldable pub first_row : ℕ → ℕ → List (List ℕ) → List (List ℕ) → Said

@@ -1,6 +1,5 @@
 -- Why a line follows no row of a table. Assumes nothing.
-use Rattle.std.specs.Prelude.{ℕ, suc, List, [], ◌∷◌, leb}
-use Rattle.std.proofs.Math.Option.{Option, none, some}
+use Rattle.std.specs.Prelude.{ℕ, suc, List, [], ◌∷◌, leb, Option, Some, None}
 use Rattle.model.specs.Choice.{choose}
 use Rattle.replay_words.specs.Words.{all_digits, words}
 use Rattle.replay_lines.specs.Taking.{bound, takes}
@@ -24,8 +23,8 @@ behind w = choose (all_digits w) too_many unknown_word
 
 -- a word that the row does not take, given the largest number that it would have taken
 unfoldable pub instead : Option ℕ → List ℕ → ℕ
-instead none w = unknown_word
-instead (some top) w = choose (all_digits w) too_large unknown_word
+instead None w = unknown_word
+instead (Some top) w = choose (all_digits w) too_large unknown_word
 
 -- how many words of a line agree with a row, and what ends it there
 pub record Parting : Type 0 where

@@ -1,8 +1,7 @@
 // The replay program's language: which row of a table a line follows, or why it follows none. No input or output.
 #![tactic(auto)]
 
-ghost use Rattle.std.specs.Prelude.{◌≡◌, length, set};
-ghost use Rattle.std.proofs.Math.Option.{none};
+ghost use Rattle.std.specs.Prelude.{◌≡◌, length, set, None};
 ghost use Rattle.replay_words.specs.Words.{lines, number, words};
 ghost use Rattle.replay_words.specs.Cursor.{told as number_told};
 ghost use Rattle.replay_lines.specs.Taking.{alone, bound, taken, taken_up_to, takes as it_takes};
@@ -61,7 +60,7 @@ fn take_number(word: &[u8], top: u64) -> Taken
 }
 
 fn take_name(name: &[u8], word: &[u8]) -> Taken
-    ensures { told result ≡ taken_up_to none name.now word.now }
+    ensures { told result ≡ taken_up_to None name.now word.now }
 {
     if replay_words::is_word(name, word) {
         return Taken::Word;

@@ -5,7 +5,7 @@ use native.Mathlib.Omega.{arith}
 use mathlib.Core.Path.{◌≡◌, refl, sym, ap, ◌∙◌}
 use mathlib.Core.Logic.{◌≢◌}
 use mathlib.Core.Bool.{Bool, true, false}
-use mathlib.Core.Option.{Option, none, some}
+use Rattle.std.specs.Prelude.{Option, Some, None}
 use mathlib.Core.List.{List, [], ◌∷◌}
 use lib.ListN.{length, drop, length-set, set, take}
 use lib.Seq.{sets, sets-eq, take_at}
@@ -57,7 +57,7 @@ pub top_items : (r : ℕ) → 2 ≤ r → 18446744073709551615 ≡ top_of r
 top_items r h = rw (le-ltb r 2 h)
 
 -- one word more in front of others
-weight_more : (top n v : ℕ) (w : List ℕ) (r : Weighed) → weight_behind n (in_front top w (some v) r) ≡ weight_behind (n + 1) r
+weight_more : (top n v : ℕ) (w : List ℕ) (r : Weighed) → weight_behind n (in_front top w (Some v) r) ≡ weight_behind (n + 1) r
 weight_more top n v w (good ws) = let e : n + suc (length ws) ≡ n + 1 + length ws = omega arith in ap weights.Words e
 weight_more top n v w (bad y) = refl
 
@@ -84,7 +84,7 @@ module _ {line : List ℕ} {top from at n : ℕ} {w : Word} (s : Weighing line t
     unfolding weighed
     step {o} q = sym s.ahead ∙ rw (next.next_word ne, q)
 
-    pub weigh_bad : {r : Number} {y : ℕ} → number_told r ≡ number top (part line w.start w.end) → r ≡ number.Not → y ≡ instead (some top) (part line w.start w.end) → weights.Bad y ≡ weight (weighed top (words (drop from line)))
+    pub weigh_bad : {r : Number} {y : ℕ} → number_told r ≡ number top (part line w.start w.end) → r ≡ number.Not → y ≡ instead (Some top) (part line w.start w.end) → weights.Bad y ≡ weight (weighed top (words (drop from line)))
     weigh_bad e q f = ap weights.Bad f ∙ sym (step (sym (ap number_told q) ∙ e))
 
     pub weigh_more : {r : Number} {v : ℕ} → number_told r ≡ number top (part line w.start w.end) → r ≡ number.Value v → Weighing line top from w.end (n + 1)
@@ -97,16 +97,16 @@ module _ {line : List ℕ} {top from at n : ℕ} {w : Word} (s : Weighing line t
         }
 
 -- a number of a word is at most its top
-small_from : (top : ℕ) (ds : List ℕ) {n : ℕ} → number_from top 0 ds ≡ some n → n ≤ top
+small_from : (top : ℕ) (ds : List ℕ) {n : ℕ} → number_from top 0 ds ≡ Some n → n ≤ top
 unfolding number_from
 small_from top ds {n} =
-    bool (λ a. choose a (choose (leb (value 0 ds) top) (some (value 0 ds)) none) none ≡ some n → n ≤ top) (all_digits ds)
-    (λ _. bool (λ b. choose b (some (value 0 ds)) none ≡ some n → n ≤ top) (leb (value 0 ds) top)
+    bool (λ a. choose a (choose (leb (value 0 ds) top) (Some (value 0 ds)) None) None ≡ Some n → n ≤ top) (all_digits ds)
+    (λ _. bool (λ b. choose b (Some (value 0 ds)) None ≡ Some n → n ≤ top) (leb (value 0 ds) top)
     (λ h e. let q : value 0 ds ≡ n = cc in omega (arith, leb-true (value 0 ds) top h))
     (λ _ e. let z : ◌≡◌ {A = ℕ} 0 1 = cc in absurd (omega arith)))
     (λ _ e. let z : ◌≡◌ {A = ℕ} 0 1 = cc in absurd (omega arith))
 
-small : (top : ℕ) (w : List ℕ) {n : ℕ} → number top w ≡ some n → n ≤ top
+small : (top : ℕ) (w : List ℕ) {n : ℕ} → number top w ≡ Some n → n ≤ top
 unfolding number
 small top [] e = let z : ◌≡◌ {A = ℕ} 0 1 = cc in absurd (omega arith)
 small top (d ∷ ds) e = small_from top (d ∷ ds) e
@@ -116,21 +116,21 @@ word_fits w e q = omega (arith, small 4294967295 w (sym e ∙ ap number_told q))
 
 -- an array with words stored from i on, if they are good
 abbrev pub pouring : List ℕ → ℕ → Weighed → Option (List ℕ)
-pouring l i (good ws) = some (sets l i ws)
-pouring l i (bad y) = none
+pouring l i (good ws) = Some (sets l i ws)
+pouring l i (bad y) = None
 
-pouring_more : (l w : List ℕ) (top i v : ℕ) (r : Weighed) → pouring l i (in_front top w (some v) r) ≡ pouring (set l i v) (i + 1) r
+pouring_more : (l w : List ℕ) (top i v : ℕ) (r : Weighed) → pouring l i (in_front top w (Some v) r) ≡ pouring (set l i v) (i + 1) r
 pouring_more l w top i v (good ws) = rw add-one
 pouring_more l w top i v (bad y) = refl
 
 -- a run whose words are stored if they are good
-poured_all : {w : Weighed} {before after : List ℕ} → some after ≡ pouring before 0 w → Poured w before after
+poured_all : {w : Weighed} {before after : List ℕ} → Some after ≡ pouring before 0 w → Poured w before after
 poured_all {w} {before} {after} e =
-    record { poured = λ ws q. let f : some after ≡ some (sets before 0 ws) = e ∙ ap (pouring before 0) q in cc }
+    record { poured = λ ws q. let f : Some after ≡ Some (sets before 0 ws) = e ∙ ap (pouring before 0) q in cc }
 
-poured_none : {w : Weighed} {before after : List ℕ} → none ≡ pouring before 0 w → Poured w before after
+poured_none : {w : Weighed} {before after : List ℕ} → None ≡ pouring before 0 w → Poured w before after
 poured_none {w} {before} {after} e =
-    record { poured = λ ws q. let f : none ≡ some (sets before 0 ws) = e ∙ ap (pouring before 0) q in let z : ◌≡◌ {A = ℕ} 0 1 = cc in absurd (omega arith) }
+    record { poured = λ ws q. let f : None ≡ Some (sets before 0 ws) = e ∙ ap (pouring before 0) q in let z : ◌≡◌ {A = ℕ} 0 1 = cc in absurd (omega arith) }
 
 -- words up to at have been stored, and they are i
 pub record Pouring (line : List ℕ) (top from : ℕ) (before now : List ℕ) (at i : ℕ) : Type 0 where
@@ -146,7 +146,7 @@ module _ {line : List ℕ} {top from at i : ℕ} {before now : List ℕ} {w : Wo
   pub pour_end : w.start ≡ w.end → Poured (weighed top (words (drop from line))) before now
   unfolding weighed
   pour_end e =
-      let q : pouring now i (weighed top (words (drop at line))) ≡ some now = rw (next.none_left e) in
+      let q : pouring now i (weighed top (words (drop at line))) ≡ Some now = rw (next.none_left e) in
       poured_all (sym q ∙ s.ahead)
 
   module _ (ne : w.start ≢ w.end) where

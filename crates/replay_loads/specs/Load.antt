@@ -1,6 +1,5 @@
 -- What a line of a dump loads: its run, and the run's words. Assumes nothing.
-use Rattle.std.specs.Prelude.{ℕ, List, [], ◌∷◌, eqb, ltb}
-use Rattle.std.proofs.Math.Option.{Option, none, some}
+use Rattle.std.specs.Prelude.{ℕ, List, [], ◌∷◌, eqb, ltb, Option, Some, None}
 use Rattle.model.specs.Choice.{choose}
 use Rattle.replay_words.specs.Words.{number, same, without_comment, without_return, words}
 use Rattle.replay_print.specs.Text.{bytes}
@@ -13,9 +12,9 @@ pub data Weighed : Type 0 where
 
 -- a word in front of others, given what number it is
 abbrev pub in_front : (top : ℕ) → List ℕ → Option ℕ → Weighed → Weighed
-in_front top w none r = bad (instead (some top) w)
-in_front top w (some n) (good ws) = good (n ∷ ws)
-in_front top w (some n) (bad y) = bad y
+in_front top w None r = bad (instead (Some top) w)
+in_front top w (Some n) (good ws) = good (n ∷ ws)
+in_front top w (Some n) (bad y) = bad y
 
 -- words, each a number up to top
 unfoldable pub weighed : (top : ℕ) → List (List ℕ) → Weighed

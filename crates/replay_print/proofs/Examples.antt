@@ -1,6 +1,6 @@
 -- What is printed, by computation. Assumes nothing.
 use mathlib.Core.Path.{◌≡◌, refl}
-use mathlib.Core.Option.{none, some}
+use Rattle.std.specs.Prelude.{Some, None}
 use lib.IntN.{pos, negsuc}
 use Rattle.replay_words.specs.Words.{all_digits, number, number_from, signed, value}
 use Rattle.replay_print.specs.Text.{bytes}
@@ -16,8 +16,8 @@ printed = (refl, refl, refl, refl, refl, refl, refl, refl, refl)
 
 -- and signed numbers as people write them; a size above the top, a sign without digits and a second sign are none
 pub read_back :
-    (signed 720 (bytes "-720") ≡ some (negsuc 719)) × (signed 720 (bytes "720") ≡ some (pos 720)) × (signed 720 (bytes "-007") ≡ some (negsuc 6))
-    × (signed 720 (bytes "-0") ≡ some (pos 0)) × (signed 720 (bytes "-721") ≡ none) × (signed 720 (bytes "721") ≡ none) × (signed 720 (bytes "-") ≡ none)
-    × (signed 720 (bytes "--7") ≡ none) × (signed 720 (bytes "+7") ≡ none) × (signed 720 (bytes "7-") ≡ none) × (signed 720 (bytes "") ≡ none)
+    (signed 720 (bytes "-720") ≡ Some (negsuc 719)) × (signed 720 (bytes "720") ≡ Some (pos 720)) × (signed 720 (bytes "-007") ≡ Some (negsuc 6))
+    × (signed 720 (bytes "-0") ≡ Some (pos 0)) × (signed 720 (bytes "-721") ≡ None) × (signed 720 (bytes "721") ≡ None) × (signed 720 (bytes "-") ≡ None)
+    × (signed 720 (bytes "--7") ≡ None) × (signed 720 (bytes "+7") ≡ None) × (signed 720 (bytes "7-") ≡ None) × (signed 720 (bytes "") ≡ None)
 unfolding signed number number_from all_digits value
 read_back = (refl, refl, refl, refl, refl, refl, refl, refl, refl, refl, refl)

@@ -7,7 +7,7 @@ use native.Mathlib.Decide.{ℕ_discrete}
 use mathlib.Core.Path.{◌≡◌, refl, sym, ap, ap₂, subst, ◌∙◌}
 use mathlib.Core.Logic.{dite}
 use mathlib.Core.Bool.{true, false}
-use mathlib.Core.Option.{some}
+use Rattle.std.specs.Prelude.{Some}
 use mathlib.Core.List.{List, [], ◌∷◌, ◌++◌, append_assoc, append-nil}
 use lib.ListN.{length, get_or, set, take, drop, drop_of_length-le, length-append, length-drop, length-set, length-take}
 use lib.Seq.{drop-cons, drop-set-lt, get_or-set_same, sets, take_all}
@@ -85,7 +85,7 @@ digits_are zero x = refl
 digits_are (suc f) zero = refl
 digits_are (suc f) (suc x) = digits_more (digits f (suc x / 10)) (48 + suc x % 10) (digits_are f (suc x / 10)) (digit_is (suc x))
 
-number_is : (top x : ℕ) (w : List ℕ) → 0 < length w → all_digits w ≡ true → value 0 w ≡ x → x ≤ top → number top w ≡ some x
+number_is : (top x : ℕ) (w : List ℕ) → 0 < length w → all_digits w ≡ true → value 0 w ≡ x → x ≤ top → number top w ≡ Some x
 unfolding number number_from
 number_is top x [] h a v l = absurd (omega arith)
 number_is top x (d ∷ ds) h a v l = rw (a, v, le-leb x top l)
@@ -96,7 +96,7 @@ some_digits zero x hf hx = absurd (omega arith)
 some_digits (suc f) zero hf hx = absurd (omega arith)
 some_digits (suc f) (suc x) hf hx = omega (arith, length-append (digits f (suc x / 10)) ((48 + suc x % 10) ∷ []))
 
-pub printed_is_read : (top x : ℕ) → x ≤ top → number top (decimal_of x) ≡ some x
+pub printed_is_read : (top x : ℕ) → x ≤ top → number top (decimal_of x) ≡ Some x
 unfolding decimal_of all_digits value
 printed_is_read top zero l = number_is top 0 (48 ∷ []) (omega arith) refl refl l
 printed_is_read top (suc x) l =

@@ -5,7 +5,7 @@ use native.Mathlib.Nat.{le_of_lt}
 use mathlib.Core.Path.{◌≡◌, refl, sym, ap, subst, ◌∙◌}
 use mathlib.Core.Logic.{◌≢◌}
 use mathlib.Core.Bool.{true, false}
-use mathlib.Core.Option.{some}
+use Rattle.std.specs.Prelude.{Some}
 use mathlib.Core.List.{List, []}
 use lib.ListN.{length, get_or}
 use lib.IntN.{ℤ, pos, negsuc, nat_abs}
@@ -97,7 +97,7 @@ first_of zero = omega arith
 first_of (suc x) = le_of_lt (no_zero_in_front (suc x) (omega arith))
 
 -- what is printed is read again
-pub printed_signed_is_read : (top : ℕ) (z : ℤ) → nat_abs z ≤ top → signed top (signed_of z) ≡ some z
+pub printed_signed_is_read : (top : ℕ) (z : ℤ) → nat_abs z ≤ top → signed top (signed_of z) ≡ Some z
 unfolding signed signed_of
 printed_signed_is_read top (pos n) h =
     sym (signed_whole top (decimal_of n) some_digit no_minus (sym (printed_is_read top n h)) refl)

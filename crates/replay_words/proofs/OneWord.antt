@@ -5,7 +5,7 @@ use native.Mathlib.Omega.{arith}
 use mathlib.Core.Path.{◌≡◌, refl, sym, ap, ◌∙◌}
 use mathlib.Core.Logic.{◌≢◌}
 use mathlib.Core.Bool.{Bool, true, false, not}
-use mathlib.Core.Option.{none, some}
+use Rattle.std.specs.Prelude.{Some, None}
 use mathlib.Core.List.{List, [], ◌∷◌}
 use lib.ListN.{length, get_or, drop, drop_of_length-le, length-take, take}
 use lib.Seq.{drop-cons, length-take-le}
@@ -110,14 +110,14 @@ value_grows v [] = omega arith
 value_grows v (d ∷ ds) = omega (arith, value_grows (v * 10 + (d - 48)) ds)
 
 module _ (top v : ℕ) where
-  too_large : (ds : List ℕ) → top < v → number_from top v ds ≡ none
+  too_large : (ds : List ℕ) → top < v → number_from top v ds ≡ None
   unfolding number_from
   too_large ds h =
       let g : top < value v ds = omega (arith, value_grows v ds) in
-      bool (λ t. choose t (choose (leb (value v ds) top) (some (value v ds)) none) none ≡ none) (all_digits ds)
+      bool (λ t. choose t (choose (leb (value v ds) top) (Some (value v ds)) None) None ≡ None) (all_digits ds)
       (λ e. rw (lt-leb (value v ds) top g)) λ e. refl
 
-  no_digit : (d : ℕ) (ds : List ℕ) → is_digit d ≡ false → number_from top v (d ∷ ds) ≡ none
+  no_digit : (d : ℕ) (ds : List ℕ) → is_digit d ≡ false → number_from top v (d ∷ ds) ≡ None
   unfolding number_from all_digits
   no_digit d ds e = rw e
 
@@ -131,7 +131,7 @@ pub record Reading (top : ℕ) (w : List ℕ) (v i : ℕ) : Type 0 where
   pub inside : i ≤ length w
   pub ahead : number_from top v (drop i w) ≡ number top w
 
-pub read_none : (top : ℕ) (w : List ℕ) → length w ≡ 0 → none ≡ number top w
+pub read_none : (top : ℕ) (w : List ℕ) → length w ≡ 0 → None ≡ number top w
 unfolding number
 read_none top [] h = refl
 read_none top (d ∷ ds) h = absurd (omega arith)
@@ -142,23 +142,23 @@ read_first top [] h = absurd (h refl)
 read_first top (d ∷ ds) h = record { small = omega arith; inside = omega arith; ahead = refl }
 
 module _ {top : ℕ} {w : List ℕ} {v i : ℕ} (r : Reading top w v i) where
-  pub read_end : length w ≤ i → some v ≡ number top w
+  pub read_end : length w ≤ i → Some v ≡ number top w
   unfolding number_from all_digits value
   read_end h =
-      let q : number_from top v (drop i w) ≡ some v = rw (drop_of_length-le w h, le-leb v top r.small) in
+      let q : number_from top v (drop i w) ≡ Some v = rw (drop_of_length-le w h, le-leb v top r.small) in
       sym q ∙ r.ahead
 
   module _ (h : i < length w) where
     here : number_from top v (drop i w) ≡ number_from top v (get_or w i 0 ∷ drop (i + 1) w)
     here = rw (drop-cons w i 0 h, add-one)
 
-    pub read_low : get_or w i 0 < 48 → none ≡ number top w
+    pub read_low : get_or w i 0 < 48 → None ≡ number top w
     read_low l =
         let n : is_digit (get_or w i 0) ≡ false = rw (lt-leb 48 (get_or w i 0) l) in
         sym (here ∙ no_digit top v (get_or w i 0) (drop (i + 1) w) n) ∙ r.ahead
 
     module _ (low : 48 ≤ get_or w i 0) where
-      pub read_high : 57 < get_or w i 0 → none ≡ number top w
+      pub read_high : 57 < get_or w i 0 → None ≡ number top w
       read_high l =
           let n : is_digit (get_or w i 0) ≡ false = rw (le-leb 48 (get_or w i 0) low, lt-leb (get_or w i 0) 57 l) in
           sym (here ∙ no_digit top v (get_or w i 0) (drop (i + 1) w) n) ∙ r.ahead
@@ -170,11 +170,11 @@ module _ {top : ℕ} {w : List ℕ} {v i : ℕ} (r : Reading top w v i) where
             sym r.ahead ∙ here ∙ one_digit top v (get_or w i 0) (drop (i + 1) w) n
             ∙ ap (λ (k : ℕ). number_from top (v * 10 + k) (drop (i + 1) w)) (sym e)
 
-        pub read_over : top / 10 < v → none ≡ number top w
+        pub read_over : top / 10 < v → None ≡ number top w
         read_over l = sym (next ∙ too_large top (v * 10 + d) (drop (i + 1) w) (omega arith))
 
         module _ (room : v ≤ top / 10) where
-          pub read_past : top - v * 10 < d → none ≡ number top w
+          pub read_past : top - v * 10 < d → None ≡ number top w
           read_past l = sym (next ∙ too_large top (v * 10 + d) (drop (i + 1) w) (omega arith))
 
           pub read_more : d ≤ top - v * 10 → Reading top w (v * 10 + d) (i + 1)

@@ -4,7 +4,7 @@ use native.Mathlib.Omega.{arith}
 use mathlib.Core.Path.{◌≡◌, refl, sym, ap, subst, ◌∙◌}
 use mathlib.Core.Logic.{◌≢◌}
 use mathlib.Core.Bool.{Bool, true, false}
-use mathlib.Core.Option.{Option, none, some}
+use Rattle.std.specs.Prelude.{Option, Some, None}
 use mathlib.Core.List.{List, [], ◌∷◌}
 use lib.ListN.{length, get_or, take, drop}
 use lib.Seq.{take_all}
@@ -45,13 +45,13 @@ module _ {size : Number} {v : ℕ} (e : size ≡ number.Value v) (small : Small 
   minus_fits = subst (SFits w64) (sym minus) (below_fits v low)
 
   module _ {m : Bool} where
-    pub with_minus : m ≡ true → some (to_z w64 (of_z w64 (pos 0 -ℤ to_z w64 v))) ≡ choose m (negative (told size)) (whole (told size))
-    with_minus t = rw (t, e) (ap some (to_z-of_z w64 (pos 0 -ℤ to_z w64 v) minus_fits ∙ minus))
+    pub with_minus : m ≡ true → Some (to_z w64 (of_z w64 (pos 0 -ℤ to_z w64 v))) ≡ choose m (negative (told size)) (whole (told size))
+    with_minus t = rw (t, e) (ap Some (to_z-of_z w64 (pos 0 -ℤ to_z w64 v) minus_fits ∙ minus))
 
-    pub without_minus : m ≡ false → some (to_z w64 v) ≡ choose m (negative (told size)) (whole (told size))
-    without_minus f = rw (f, e) (ap some (to_z_pos w64 v low))
+    pub without_minus : m ≡ false → Some (to_z w64 v) ≡ choose m (negative (told size)) (whole (told size))
+    without_minus f = rw (f, e) (ap Some (to_z_pos w64 v low))
 
-pub with_none : {size : Number} (m : Bool) → size ≡ number.Not → none ≡ choose m (negative (told size)) (whole (told size))
+pub with_none : {size : Number} (m : Bool) → size ≡ number.Not → None ≡ choose m (negative (told size)) (whole (told size))
 with_none true e = rw e refl
 with_none false e = rw e refl
 
@@ -60,8 +60,8 @@ module _ (top : ℕ) (fits : top < 9223372036854775808) where
   at_most : (v : ℕ) (ds : List ℕ) → Small (number_from top v ds)
   unfolding number_from
   at_most v ds =
-      bool (λ t. Small (choose t (choose (leb (value v ds) top) (some (value v ds)) none) none)) (all_digits ds)
-      (λ _. bool (λ t. Small (choose t (some (value v ds)) none)) (leb (value v ds) top) (λ l. omega (arith, leb-true (value v ds) top l)) λ _. tt)
+      bool (λ t. Small (choose t (choose (leb (value v ds) top) (Some (value v ds)) None) None)) (all_digits ds)
+      (λ _. bool (λ t. Small (choose t (Some (value v ds)) None)) (leb (value v ds) top) (λ l. omega (arith, leb-true (value v ds) top l)) λ _. tt)
       λ _. tt
 
   number_small : (w : List ℕ) → Small (number top w)
@@ -74,11 +74,11 @@ module _ (top : ℕ) (fits : top < 9223372036854775808) where
 
 -- the ways out
 module _ (top : ℕ) (w : List ℕ) where
-  pub signed_empty : length w ≡ 0 → none ≡ signed top w
+  pub signed_empty : length w ≡ 0 → None ≡ signed top w
   unfolding signed
   signed_empty e = go w e
     where
-      go : (w : List ℕ) → length w ≡ 0 → none ≡ signed top w
+      go : (w : List ℕ) → length w ≡ 0 → None ≡ signed top w
       go [] e = refl
       go (b ∷ bs) e = absurd (omega arith)
 

@@ -1,6 +1,5 @@
 -- What the code's steps along a line say of its words. Assumes nothing.
-use Rattle.std.specs.Prelude.{ℕ, ◌+◌, ◌-◌, ◌≤◌, ◌<◌, ◌≡◌, ◌≢◌, Bool, List, [], ◌∷◌, length, take, drop, ℤ}
-use Rattle.std.proofs.Math.Option.{Option, none, some}
+use Rattle.std.specs.Prelude.{ℕ, ◌+◌, ◌-◌, ◌≤◌, ◌<◌, ◌≡◌, ◌≢◌, Bool, List, [], ◌∷◌, length, take, drop, ℤ, Option, Some, None}
 use Rattle.replay_words.specs.Words.{before, lines, words}
 use Rattle.replay_words.specs.declared.Piece.{Piece}
 use Rattle.replay_words.specs.declared.Word.{Word}
@@ -36,15 +35,15 @@ pub record NextWord (bs : List ℕ) (at : ℕ) (r : Word) : Type 0 where
 
 -- a number as the code says it
 abbrev pub told : Number → Option ℕ
-told (number.Value v) = some v
-told number.Not = none
+told (number.Value v) = Some v
+told number.Not = None
 
 -- none, or a size that a signed number can have
 abbrev pub Small : Option ℕ → Type 0
-Small none = Unit {0}
-Small (some n) = n < 9223372036854775808
+Small None = Unit {0}
+Small (Some n) = n < 9223372036854775808
 
 -- a signed number as the code says it
 abbrev pub told_signed : Signed → Option ℤ
-told_signed (signed.Value z) = some z
-told_signed signed.Not = none
+told_signed (signed.Value z) = Some z
+told_signed signed.Not = None

@@ -1,7 +1,6 @@
 -- From the bytes of a line to its words, and from a word to a number, signed or not. Assumes nothing.
-use Rattle.std.specs.Prelude.{ℕ, ◌+◌, ◌*◌, ◌-◌, Bool, true, false, not, ◌||◌, ◌&&◌, List, [], ◌∷◌, length, get_or, take, drop, ℤ, pos, neg_ℤ, eqb, leb}
+use Rattle.std.specs.Prelude.{ℕ, ◌+◌, ◌*◌, ◌-◌, Bool, true, false, not, ◌||◌, ◌&&◌, List, [], ◌∷◌, length, get_or, take, drop, ℤ, pos, neg_ℤ, eqb, leb, Option, Some, None}
 use Prim.Native.Char.{code}
-use Rattle.std.proofs.Math.Option.{Option, none, some}
 use Rattle.model.specs.Choice.{choose}
 
 -- the bytes before the first that passes a test
@@ -91,23 +90,23 @@ value v (d ∷ ds) = value (v * 10 + (d - code "0")) ds
 
 -- that number, if they are digits and it is at most top
 unfoldable pub number_from : ℕ → ℕ → List ℕ → Option ℕ
-number_from top v ds = choose (all_digits ds) (choose (leb (value v ds) top) (some (value v ds)) none) none
+number_from top v ds = choose (all_digits ds) (choose (leb (value v ds) top) (Some (value v ds)) None) None
 
 -- the number at most top that a word is, if it is one
 unfoldable pub number : ℕ → List ℕ → Option ℕ
-number top [] = none
+number top [] = None
 number top (d ∷ ds) = number_from top 0 (d ∷ ds)
 
 -- a number as a signed one, and as a negative one
 abbrev pub whole : Option ℕ → Option ℤ
-whole none = none
-whole (some n) = some (pos n)
+whole None = None
+whole (Some n) = Some (pos n)
 
 abbrev pub negative : Option ℕ → Option ℤ
-negative none = none
-negative (some n) = some (neg_ℤ (pos n))
+negative None = None
+negative (Some n) = Some (neg_ℤ (pos n))
 
 -- the signed number that a word is, if it is one of a size of at most top: a minus stands before a negative one
 unfoldable pub signed : ℕ → List ℕ → Option ℤ
-signed top [] = none
+signed top [] = None
 signed top (b ∷ bs) = choose (eqb b (code "-")) (negative (number top bs)) (whole (number top (b ∷ bs)))

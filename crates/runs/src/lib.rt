@@ -1,26 +1,14 @@
-// The words of a lent run: read anywhere, judged, and set to zero.
+// The words of a lent run: read anywhere, and judged.
 #![tactic(auto)]
 
-ghost use Rattle.std.specs.Prelude.{◌≡◌, length, get_or, replicate};
+ghost use Rattle.std.specs.Prelude.{◌≡◌, get_or};
 ghost use Rattle.model.specs.Memory.{damaged};
 
-// The word at i, 0 outside: what the definitions read there.
-pub fn get32(run: &[u32], i: usize) -> u32
-    ensures { result ≡ get_or run.now i 0 }
+// The word at i, or another outside: 0 is what the definitions read there.
+pub fn word_or<T: Copy>(run: &[T], i: usize, other: T) -> T
+    ensures { result ≡ get_or run.now i other }
 {
-    if i < run.len() {
-        return run[i];
-    }
-    0
-}
-
-pub fn get64(run: &[u64], i: usize) -> u64
-    ensures { result ≡ get_or run.now i 0 }
-{
-    if i < run.len() {
-        return run[i];
-    }
-    0
+    run.get(i).copied().unwrap_or(other)
 }
 
 // A slot word among m places. One eager expression: the tests of several words become vector code with one branch.
@@ -28,25 +16,4 @@ pub fn is_damaged(w: u32, m: u32) -> bool
     ensures { result ≡ damaged m w }
 {
     (w != 0) & (((w / 65536 == 0) | (255 < w / 65536)) | (m <= w % 65536))
-}
-
-// Zero in every word of a run.
-pub fn zero32(run: &mut [u32])
-    ensures { run.new ≡ replicate (length run.old) 0 }
-{
-    let mut i = 0;
-    while i < run.len() {
-        run[i] = 0;
-        i += 1;
-    }
-}
-
-pub fn zero64(run: &mut [u64])
-    ensures { run.new ≡ replicate (length run.old) 0 }
-{
-    let mut i = 0;
-    while i < run.len() {
-        run[i] = 0;
-        i += 1;
-    }
 }

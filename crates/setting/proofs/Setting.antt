@@ -4,7 +4,7 @@ use native.Mathlib.Omega.{arith}
 use mathlib.Core.Path.{◌≡◌, refl, sym, ap, ◌∙◌}
 use mathlib.Core.Logic.{◌≢◌}
 use mathlib.Core.Bool.{Bool, true, false, not}
-use mathlib.Core.Option.{Option, none, some}
+use Rattle.std.specs.Prelude.{Option, Some, None}
 use mathlib.Core.List.{List, [], ◌∷◌}
 use lib.ListN.{length, length-append}
 use lib.Dec.{eqb}
@@ -82,14 +82,14 @@ module _ (W : Ways) (m : Mem) (g : Grant) where
 
   few_set_at : (o : Option ℕ) → Few (4 * W.reach + 7) (set_at Y m g o)
   unfolding stores
-  few_set_at none = few (vacant_place (length m.items / 4) m.items)
+  few_set_at None = few (vacant_place (length m.items / 4) m.items)
     where
       few : (o : Option ℕ) → Few (4 * W.reach + 7) (enter_at Y m g o)
-      few none = few_refuse 5
-      few (some p) =
+      few None = few_refuse 5
+      few (Some p) =
           few_or (search_damage Y m g.animal) (few_refuse 4)
           (few_or (eqb (stopped Y m g.animal) (length (visited Y m g.animal))) (few_refuse 6) (few_entered p))
-  few_set_at (some p) = few_or (late (stamp m.items p) g) (few_refuse 11) (record { few = omega arith })
+  few_set_at (Some p) = few_or (late (stamp m.items p) g) (few_refuse 11) (record { few = omega arith })
 
   -- behind the last store the cut form is the whole call
   whole : 4 * W.reach + 7 ≤ all_stores → {m' : Mem} {a : Answer} → CutAs W m (set_animal g) all_stores m' a → WholeAs W m (set_animal g) m' a

@@ -4,7 +4,7 @@ use native.Mathlib.Omega.{arith}
 use mathlib.Core.Path.{◌≡◌, refl, sym, ap, ◌∙◌}
 use mathlib.Core.Logic.{◌≢◌}
 use mathlib.Core.Bool.{Bool, true, false, not, ◌&&◌}
-use mathlib.Core.Option.{none}
+use Rattle.std.specs.Prelude.{None}
 use mathlib.Core.List.{List, [], ◌∷◌}
 use lib.ListN.{length, get_or}
 use borrow.Author.Tests.{le-ltb, lt-ltb, not-false, not-true}
@@ -71,7 +71,7 @@ module _ (W : Ways) (m : Mem) (g : Grant) (p i : ℕ) where
   whole d = did_all (few_asked W m g.animal (bad_grant g) few_entered) (omega arith) d
 
   -- the test by an animal's four numbers is the model's
-  by_homes : {h : Homes} → HomesIn W m g.animal h → held Y m g.animal ≡ none → entering_at W.ways m g h p i ≡ rest
+  by_homes : {h : Homes} → HomesIn W m g.animal h → held Y m g.animal ≡ None → entering_at W.ways m g h p i ≡ rest
   unfolding may_enter
   by_homes {h} hs away =
       rw (hs.first_is, hs.second_is, hs.counter_is, hs.tag_is, ap there away) refl

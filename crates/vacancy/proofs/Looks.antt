@@ -4,7 +4,7 @@ use native.Mathlib.Nat.{mul-le-mul_right}
 use native.Mathlib.Omega.{arith}
 use mathlib.Core.Path.{◌≡◌, sym, ap, ◌∙◌, subst, ap₂}
 use mathlib.Core.Bool.{Bool}
-use mathlib.Core.Option.{some}
+use Rattle.std.specs.Prelude.{Some}
 use mathlib.Core.List.{List}
 use lib.ListN.{length, take}
 use lib.Dec.{eqb}
@@ -98,10 +98,10 @@ module _ (W : Ways) (m : Mem) (g : Grant) {h : Homes} (a : Homed W m g.animal h)
 
   -- place p is, and r is what the search from there found
   module _ {p : ℕ} (e : y ≡ place.At p) {r : Found} (f : FoundIs W (length m.slots / W.ways) (length m.items / 4) m.slots h.first h.second r) where
-    into : {o : Outcome} → o ≡ enter_at Y m g (some p) → o ≡ entering_new W m g
+    into : {o : Outcome} → o ≡ enter_at Y m g (Some p) → o ≡ entering_new W m g
     into q = q ∙ ap (enter_at Y m g) (sym (ap place_found e) ∙ v)
 
-    as_plan : {b : Plan} → b ≡ plan_of (plan_new Y m g.animal (some p)).answer → b ≡ plan_of (planning_new W m g.animal).answer
+    as_plan : {b : Plan} → b ≡ plan_of (plan_new Y m g.animal (Some p)).answer → b ≡ plan_of (planning_new W m g.animal).answer
     as_plan q = q ∙ ap (λ o. plan_of (plan_new Y m g.animal o).answer) (sym (ap place_found e) ∙ v)
 
     own : FoundIs W (length m.slots / W.ways) (length m.items / 4) m.slots (Y.first_of g.animal) (second_of Y g.animal) r
@@ -153,7 +153,7 @@ module _ (W : Ways) (m : Mem) (g : Grant) {h : Homes} (a : Homed W m g.animal h)
             let f = fit W m a.right in
             record {
               size = rw q at f.size;
-              some = f.some;
+              Some = f.some;
               few = f.few_counters;
               narrow = l;
               four = omega (arith, t.few_moves);
