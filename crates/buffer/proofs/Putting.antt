@@ -1,12 +1,15 @@
 -- Bytes put one after the other. Assumes nothing.
-use Prim.Native.Nat.{ℕ, zero, suc, ◌+◌, ◌/◌, ◌≤◌, ◌<◌}
+use Prim.Native.Nat.{ℕ, zero, suc, ◌+◌, ◌-◌, ◌/◌, ◌%◌, ◌^◌, ◌≤◌}
 use native.Mathlib.Nat.{add-zero}
-use native.Mathlib.Numerals.{add-one}
 use native.Mathlib.Omega.{arith}
 use mathlib.Core.Path.{◌≡◌, refl, sym, ap, ap₂, ◌∙◌}
-use mathlib.Core.List.{List, [], ◌∷◌, ◌++◌}
-use lib.ListN.{length, get_or, set, take, drop, drop_of_length-le, length-append, length-set}
-use lib.Seq.{drop-cons, length-sets, sets, sets-eq}
+use mathlib.Core.List.{List, [], ◌∷◌, ◌++◌, append_assoc}
+use lib.ListN.{length, set, take, drop, length-append}
+use lib.Seq.{drop-drop, length-sets, sets, sets-eq}
+use Rattle.std.proofs.Math.Nat.{div-div-eq-div-mul, div-one, pow-suc}
+use Rattle.std.specs.Int.{byte_at, bytes_low_first, to_le_bytes}
+use Rattle.std.proofs.Common.{w64}
+use borrow.Rule.Slice.PartMut.{put_mid}
 use Rattle.model.specs.Hash.{bytes}
 use Rattle.buffer.specs.Put.{Put}
 
@@ -41,28 +44,34 @@ put_both {xs} {ys} {at} {r} {s} {before} {middle} {after} p q =
       next = omega (arith, p.next, q.next, length-append xs ys);
     }
 
--- the copy of a text has come to its byte i
-pub record Copying (text : List ℕ) (at : ℕ) (before after : List ℕ) (i : ℕ) : Type 0 where
-  pub inside : i ≤ length text
-  pub room : at + length text ≤ length before
-  pub long : length after ≡ length before
-  pub ahead : sets after (at + i) (drop i text) ≡ sets before at text
+-- a text copied over a part as long as it
+pub put_text : {text new before : List ℕ} {at : ℕ} → at + length text ≤ length before → new ≡ text
+    → Put text at before (put_mid at (at + length text - at) before new) (at + length text)
+put_text {text} {new} {before} {at} h e =
+    let k : at + length text - at ≡ length text = omega arith in
+    let q : drop (at + length text - at) (drop at before) ≡ drop (at + length text) before = ap (λ n. drop n (drop at before)) k ∙ drop-drop (length text) at before in
+    record {
+      bytes_put =
+          ap₂ (λ (l r : List ℕ). take at before ++ (l ++ r)) e q ∙ sym (append_assoc (take at before) text (drop (at + length text) before))
+          ∙ sym (sets-eq text before at h);
+      next = refl;
+    }
 
-pub copy_first : {text : List ℕ} {at : ℕ} {before : List ℕ} → at + length text ≤ length before → Copying text at before before 0
-copy_first {text} {at} {before} h =
-    record { inside = omega arith; room = h; long = refl; ahead = ap (λ (k : ℕ). sets before k text) (add-zero at) }
+-- the lowest bytes as the library has them
+low_from : (i k x : ℕ) → bytes_low_first i k x ≡ bytes k (x / 256 ^ i)
+unfolding bytes
+low_from i zero x = refl
+low_from i (suc k) x = ap₂ (λ (b : ℕ) (l : List ℕ). b ∷ l) (first i) (low_from (suc i) k x ∙ ap (bytes k) (ap (λ (n : ℕ). x / n) (pow-suc 256 i) ∙ sym (div-div-eq-div-mul x (256 ^ i) 256)))
+  where
+    first : (i : ℕ) → byte_at i x ≡ x / 256 ^ i % 256
+    first zero = ap (λ (n : ℕ). n % 256) (sym (div-one x))
+    first (suc i) = refl
 
-module _ {text : List ℕ} {at : ℕ} {before after : List ℕ} {i : ℕ} (s : Copying text at before after i) where
-  pub copy_room : i < length text → at + i < length after
-  copy_room h = omega (arith, s.room, s.long)
+first_bytes : (n m x : ℕ) → n ≤ m → take n (bytes m x) ≡ bytes n x
+unfolding bytes
+first_bytes zero m x h = refl
+first_bytes (suc n) zero x h = absurd (omega arith)
+first_bytes (suc n) (suc m) x h = ap (λ (l : List ℕ). x % 256 ∷ l) (first_bytes n m (x / 256) (omega arith))
 
-  pub copy_more : i < length text → Copying text at before (set after (at + i) (get_or text i 0)) (i + 1)
-  copy_more h =
-      let q : sets after (at + i) (drop i text) ≡ sets (set after (at + i) (get_or text i 0)) (at + (i + 1)) (drop (i + 1) text) =
-      let e : at + (i + 1) ≡ suc (at + i) = omega arith in rw (drop-cons text i 0 h, e, add-one) in
-      record { inside = omega arith; room = s.room; long = length-set after (at + i) (get_or text i 0) ∙ s.long; ahead = sym q ∙ s.ahead }
-
-  pub copy_done : length text ≤ i → Put text at before after (at + i)
-  copy_done h =
-      let e : drop i text ≡ [] = drop_of_length-le text h in
-      record { bytes_put = ap (λ (l : List ℕ). sets after (at + i) l) (sym e) ∙ s.ahead; next = omega (arith, s.inside) }
+pub low_bytes : (n x : ℕ) → n ≤ 8 → take n (to_le_bytes w64 x) ≡ bytes n x
+low_bytes n x h = ap (take n) (low_from 0 8 x ∙ ap (bytes 8) (div-one x)) ∙ first_bytes n 8 x h

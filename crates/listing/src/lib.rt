@@ -46,9 +46,9 @@ fn put_place(items: &[u64], p: usize, buffer: &mut [u8], at: usize) -> usize
     }
     let permission = items[word + 1];
     let stamp = items[word + 2];
-    let behind_animal = buffer::put_eight(buffer, at, animal);
-    let behind_permission = buffer::put_four(buffer, behind_animal, permission % 4294967296);
-    buffer::put_eight(buffer, behind_permission, stamp)
+    let behind_animal = buffer::put_low::<8>(buffer, at, animal);
+    let behind_permission = buffer::put_low::<4>(buffer, behind_animal, permission % 4294967296);
+    buffer::put_low::<8>(buffer, behind_permission, stamp)
 }
 
 // The records of the live ones among the first m places, at the buffer's front.

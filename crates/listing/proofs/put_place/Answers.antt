@@ -5,15 +5,15 @@ use Rattle.listing.proofs.put_place.Goals as goal
 pub returns-then-animal-eq0 : goal.returns-then-animal-eq0
 returns-then-animal-eq0 c = search put_vacant
 
-pub put_eight-behind_animal-requires : goal.put_eight-behind_animal-requires
-put_eight-behind_animal-requires c = search (room_animal, room_live)
+pub put_low-behind_animal-requires-clause-room : goal.put_low-behind_animal-requires-clause-room
+put_low-behind_animal-requires-clause-room c = search (room_animal, room_live)
 
-pub put_four-behind_permission-requires : goal.put_four-behind_permission-requires
-put_four-behind_permission-requires c = room_permission _ c.put_eight-behind_animal.ensures (search room_live)
+pub put_low-behind_permission-requires-clause-room : goal.put_low-behind_permission-requires-clause-room
+put_low-behind_permission-requires-clause-room c = room_permission _ c.put_low-behind_animal.ensures (search room_live)
 
-pub put_eight-requires : goal.put_eight-requires
-put_eight-requires c =
-    room_stamp _ c.put_eight-behind_animal.ensures _ c.put_four-behind_permission.ensures (search room_live)
+pub put_low-requires-clause-room : goal.put_low-requires-clause-room
+put_low-requires-clause-room c =
+    room_stamp _ c.put_low-behind_animal.ensures _ c.put_low-behind_permission.ensures (search room_live)
 
 pub returns : goal.returns
 returns c = search put_live
