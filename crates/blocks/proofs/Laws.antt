@@ -30,16 +30,16 @@ made_cons : {x y : Store} {ys : List Store} {l l₁ l₂ : ℕ} {m m₁ m₂ : M
 made_cons p q = made_append p q
 
 -- one store to one run
-pub put_none : {i v l : ℕ} {s : List ℕ} → l ≡ 0 → Put i v l s s 0
+pub put_none : {A : Type 0} {i : ℕ} {v : A} {l : ℕ} {s : List A} → l ≡ 0 → Put i v l s s 0
 unfolding put
 put_none e = record { after = rw e; rest = rw e (omega arith) }
 
-one : (i v l : ℕ) (s : List ℕ) → l ≢ 0 → set s i v ≡ put l s i v
+one : {A : Type 0} (i : ℕ) (v : A) (l : ℕ) (s : List A) → l ≢ 0 → set s i v ≡ put l s i v
 unfolding put
 one i v zero s h = absurd (h refl)
 one i v (suc l) s h = refl
 
-pub put_one : {i v l : ℕ} {s s' : List ℕ} → l ≢ 0 → s' ≡ set s i v → Put i v l s s' (l - 1)
+pub put_one : {A : Type 0} {i : ℕ} {v : A} {l : ℕ} {s s' : List A} → l ≢ 0 → s' ≡ set s i v → Put i v l s s' (l - 1)
 put_one {i} {v} {l} {s} h e = record { after = e ∙ one i v l s h; rest = refl }
 
 -- and what it does to the memory

@@ -1,5 +1,5 @@
 -- What a run of stores under a budget does. Assumes nothing.
-use Rattle.std.specs.Prelude.{◌≡◌, ℕ, zero, suc, ◌-◌, List, length, take, slice_set}
+use Rattle.std.specs.Prelude.{◌≡◌, ℕ, zero, suc, ◌-◌, List, length, set, take}
 use Rattle.model.specs.Memory.{Mem}
 use Rattle.model.specs.Stores.{Store, apply_all}
 
@@ -8,12 +8,12 @@ abbrev pub all_stores : ℕ
 all_stores = 18446744073709551615
 
 -- v at i of the run s, where the budget l isn't 0
-unfoldable pub put : ℕ → List ℕ → ℕ → ℕ → List ℕ
+unfoldable pub put : {A : Type 0} → ℕ → List A → ℕ → A → List A
 put zero s i v = s
-put (suc l) s i v = slice_set s i v
+put (suc l) s i v = set s i v
 
 -- one store of v at i of the run s under the budget l: the run afterwards, and what is left of the budget
-pub record Put (i v l : ℕ) (s s' : List ℕ) (l' : ℕ) : Type 0 where
+pub record Put {A : Type 0} (i : ℕ) (v : A) (l : ℕ) (s s' : List A) (l' : ℕ) : Type 0 where
   pub after : s' ≡ put l s i v
   pub rest : l' ≡ l - 1
 
