@@ -8,7 +8,7 @@ use mathlib.Core.Logic.{◌≢◌, dite}
 use mathlib.Core.Bool.{Bool, true, false, not, ◌&&◌}
 use mathlib.Core.List.{List, [], ◌∷◌}
 use lib.Dec.{eqb, leb, T}
-use borrow.Author.Tests.{ne_eqb, eqb-true, leb-true, le-leb, lt-leb}
+use borrow.Author.Tests.{ne_eqb, eqb-true, leb-false, leb-true, le-leb, lt-leb}
 use lib.Count.{ones, ones_in, ones_step}
 use Rattle.model.specs.Shape.{good_slots, four}
 use Rattle.model.proofs.ListLaws.{bool}
@@ -74,7 +74,7 @@ unfolding test
 tested n h =
     rw (ones_by_width 14 n (omega arith)) (same_eq (leb 8 n && eqb (ones_in 14 n) 1) (good_slots four n) (below test 8193 passed n (omega arith)))
 
-pub short_length : (n : ℕ) → n < 8 → false ≡ good_slots four n
+short_length : (n : ℕ) → n < 8 → false ≡ good_slots four n
 short_length n h = sym (ap (λ b. b && eqb (ones n) 1) (lt-leb 8 n h)) ∙ tested n (omega arith)
 
 pub middle_length : (n : ℕ) → 8 ≤ n → n ≤ 8192 → eqb (ones n) 1 ≡ good_slots four n
@@ -93,3 +93,8 @@ unfolding good_slots
 long_length n h =
     bool (λ b. false ≡ (b && one_of (n / 4) four.sizes)) (eqb (n % 4) 0)
     (λ e. let z : n % 4 ≡ 0 = eqb-true (n % 4) 0 e in sym (above (n / 4) four.sizes tt (omega arith))) λ e. refl
+
+pub outer_length : (n : ℕ) → (8 ≤ n → n ≤ 8192 → ⊥) → false ≡ good_slots four n
+outer_length n out =
+    bool (λ b. false ≡ good_slots four n) (leb 8 n)
+    (λ e. let l : 8 ≤ n = leb-true 8 n e in long_length n (omega (arith, out l))) λ e. short_length n (leb-false 8 n e)

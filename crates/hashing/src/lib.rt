@@ -1,55 +1,46 @@
 // From an animal's number to its tag, its two buckets and its counter; and the test of the three lengths.
+// The number of buckets stays a number, with `Size n` in each contract: docs/STATEMENTS names these functions, so none may take a narrower type.
 #![tactic(auto)]
 
-ghost use Rattle.std.specs.Prelude.{◌≡◌, ◌*◌, ◌%◌, ◌^◌, ◌<◌, min};
-ghost use Rattle.model.specs.Hash.{fnv_step, hash, tag_from, odd_up, Size, spread, other_bucket};
-ghost use Rattle.model.specs.Shape.{good_slots, good_lengths, four};
+ghost use Rattle.std.specs.Prelude.{◌≡◌, ◌%◌, ◌<◌, min};
+ghost use Rattle.model.specs.Hash.{fnv_step, hash, tag_from, Size, spread, other_bucket};
+ghost use Rattle.model.specs.Shape.{good_counters, good_items, good_lengths, good_slots, four};
 ghost use Rattle.hashing.specs.Homes.{HomesAre};
-
-// h times p, kept modulo 2^32.
-pub fn mul_mod_2_32(h: u32, p: u32) -> u32
-    ensures { result ≡ (h * p) % 2 ^ 32 }
-{
-    ((h as u64) * (p as u64) % 4294967296) as u32
-}
 
 // One byte of FNV-1a.
 pub fn fnv_byte(h: u32, b: u8) -> u32
     ensures { result ≡ fnv_step h b }
 {
-    mul_mod_2_32(h ^ (b as u32), 16777619)
+    (h ^ u32::from(b)).wrapping_mul(16777619)
 }
 
 // FNV-1a over the eight bytes of an animal number, lowest first. Each step waits for the one before; but a byte of 0 only multiplies by the prime, so four or two of them on top are one product, by its power modulo 2^32.
 pub fn hash_of(animal: u64) -> u32
     ensures { result ≡ hash animal }
 {
-    let h1 = fnv_byte(2166136261, (animal % 256) as u8);
-    let h2 = fnv_byte(h1, (animal / 256 % 256) as u8);
-    let h3 = fnv_byte(h2, (animal / 65536 % 256) as u8);
-    let h4 = fnv_byte(h3, (animal / 16777216 % 256) as u8);
+    let bytes = animal.to_le_bytes();
+    let h1 = fnv_byte(2166136261, bytes[0]);
+    let h2 = fnv_byte(h1, bytes[1]);
+    let h3 = fnv_byte(h2, bytes[2]);
+    let h4 = fnv_byte(h3, bytes[3]);
     let upper = animal / 4294967296;
     if upper == 0 {
-        return mul_mod_2_32(h4, 1345077009);
+        return h4.wrapping_mul(1345077009);
     }
-    let h5 = fnv_byte(h4, (upper % 256) as u8);
-    let h6 = fnv_byte(h5, (upper / 256 % 256) as u8);
+    let h5 = fnv_byte(h4, bytes[4]);
+    let h6 = fnv_byte(h5, bytes[5]);
     if upper < 65536 {
-        return mul_mod_2_32(h6, 637696617);
+        return h6.wrapping_mul(637696617);
     }
-    let h7 = fnv_byte(h6, (upper / 65536 % 256) as u8);
-    fnv_byte(h7, (upper / 16777216 % 256) as u8)
+    let h7 = fnv_byte(h6, bytes[6]);
+    fnv_byte(h7, bytes[7])
 }
 
 // The tag of a hash.
 pub fn tag_of(h: u32) -> u32
     ensures { (result ≡ tag_from h) × (result < 256) }
 {
-    let t = h / 16777216;
-    if t == 0 {
-        return 1;
-    }
-    t
+    (h / 16777216).max(1)
 }
 
 // A remainder by a power of two needs no division.
@@ -60,22 +51,12 @@ pub fn low_part(x: u32, n: u32) -> u32
     x & (n - 1)
 }
 
-fn odd(x: u32) -> u32
-    requires { x < 4294967295 }
-    ensures { result ≡ odd_up x }
-{
-    if x % 2 == 0 {
-        return x + 1;
-    }
-    x
-}
-
 // The spread of a tag among n buckets.
 pub fn spread_of(tag: u32, n: u32) -> u32
     requires { Size n }
     ensures { result ≡ spread n tag }
 {
-    odd(low_part(mul_mod_2_32(tag, 1540483477), n))
+    low_part(tag.wrapping_mul(1540483477), n) | 1
 }
 
 // The other bucket of an entry with a tag in bucket b.
@@ -86,21 +67,12 @@ pub fn other_of(b: u32, tag: u32, n: u32) -> u32
     b ^ spread_of(tag, n)
 }
 
-fn smaller(a: u32, b: u32) -> u32
-    ensures { result ≡ min a b }
-{
-    if a < b {
-        return a;
-    }
-    b
-}
-
 // The counter of an entry with a tag in bucket b.
 pub fn counter_at(b: u32, tag: u32, n: u32, v: u32) -> u32
     requires { Size n × (0 < v) }
     ensures { result ≡ min b (other_bucket n tag b) % v }
 {
-    smaller(b, other_of(b, tag, n)) % v
+    b.min(other_of(b, tag, n)) % v
 }
 
 // The counter of an entry whose lesser bucket is b. With as many counters as buckets it is b itself, and a division is saved.
@@ -131,7 +103,7 @@ pub fn homes_of(animal: u64, n: u32, v: u32) -> Homes
     let tag = tag_of(h);
     let first = low_part(h, n);
     let second = other_of(first, tag, n);
-    let counter = counter_of(smaller(first, second), n, v);
+    let counter = counter_of(first.min(second), n, v);
     Homes {
         tag,
         first,
@@ -144,19 +116,26 @@ pub fn homes_of(animal: u64, n: u32, v: u32) -> Homes
 pub fn good_slots_length(s: usize) -> bool
     ensures { result ≡ good_slots four s }
 {
-    if s < 8 {
-        return false;
-    }
-    if 8192 < s {
-        return false;
-    }
-    u64::count_ones(s as u64) == 1
+    (8..=8192).contains(&s) && s.is_power_of_two()
+}
+
+// There are 1 to 1,024 counters.
+pub fn good_counters_length(v: usize) -> bool
+    ensures { result ≡ good_counters v }
+{
+    (1..=1024).contains(&v)
+}
+
+// The items are whole places, 1 to 4,096 of them.
+pub fn good_items_length(i: usize) -> bool
+    ensures { result ≡ good_items i }
+{
+    (i % 4 == 0) & (4..=16384).contains(&i)
 }
 
 // The three lengths are those of a table.
 pub fn lengths_are_good(s: usize, v: usize, i: usize) -> bool
     ensures { result ≡ good_lengths four s v i }
 {
-    let slots = good_slots_length(s);
-    slots & (((1 <= v) & (v <= 1024)) & ((i % 4 == 0) & ((4 <= i) & (i <= 16384))))
+    good_slots_length(s) & (good_counters_length(v) & good_items_length(i))
 }

@@ -2,4 +2,4 @@
 use Rattle.hashing.proofs.counter_at.Goals as goal
 
 pub returns : goal.returns
-returns c = rw (c.smaller.ensures, c.other_of.ensures)
+returns c = rw (c.min.ensures, c.other_of.ensures)

@@ -1,13 +1,16 @@
 -- `hashing::good_slots_length` meets its contract: one bit set decides between 8 and 8,192. Assumes nothing.
-use Rattle.hashing.proofs.OneBit.{short_length, middle_length, long_length}
-use borrow.Author.Rules.{rules}
+use Prim.Native.Nat.{◌≤◌}
+use native.Mathlib.Omega.{arith}
+use mathlib.Core.Path.{◌∙◌}
+use Rattle.std.proofs.lemmas.Bool.Decides.{nat_tests}
+use Rattle.hashing.proofs.OneBit.{middle_length, outer_length}
 use Rattle.hashing.proofs.good_slots_length.Goals as goal
 
-pub returns-then-s-lt8 : goal.returns-then-s-lt8
-returns-then-s-lt8 c = short_length c.args.s (search rules)
+pub returns-then-contains : goal.returns-then-contains
+returns-then-contains c =
+    let l : 8 ≤ c.args.s = grind (arith, nat_tests) in
+    let h : c.args.s ≤ 8192 = grind (arith, nat_tests) in
+    c.is_power_of_two.ensures ∙ middle_length c.args.s l h
 
-pub returns-then-s-gt8192 : goal.returns-then-s-gt8192
-returns-then-s-gt8192 c = long_length c.args.s (search rules)
-
-pub returns : goal.returns
-returns c = middle_length c.args.s (search rules) (search rules)
+pub returns-else-contains : goal.returns-else-contains
+returns-else-contains c = c.if-contains.false ∙ outer_length c.args.s (λ l h. grind (arith, nat_tests))
