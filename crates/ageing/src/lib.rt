@@ -1,7 +1,7 @@
 // The age of a permission: what is said of a stamp at a minute, under a limit, and how long is left; and the minutes that a set brings.
 #![tactic(auto)]
 
-ghost use Rattle.std.specs.Prelude.{◌≡◌, ◌≤◌, false};
+ghost use Rattle.std.specs.Prelude.{◌≡◌, ◌≤◌, false, Ok};
 ghost use Rattle.model.specs.Age.{verdict, left_of, bad_time, bad_grant, late};
 ghost use Rattle.model.specs.Answers.{says_fresh};
 ghost use Rattle.model.specs.Said.{said_reading};
@@ -9,10 +9,10 @@ ghost use Rattle.model.specs.Said.{said_reading};
 use model::{Grant, Reading};
 
 // As now, the largest number is no minute.
-const NO_MINUTE: u64 = 18446744073709551615;
+const NO_MINUTE: u64 = u64::MAX;
 
 // As the stamp of an entry, the largest number marks a standing permission, which is retired.
-const RETIRED_MARK: u64 = 18446744073709551615;
+const RETIRED_MARK: u64 = u64::MAX;
 
 // The least that is told to be left: -2^62.
 const LEAST_LEFT: i64 = -4611686018427387904;
@@ -39,7 +39,7 @@ fn left_of(limit: u64, age: u64) -> i64
 // so it is looked for only where the stamp is later than now: no other read pays for the test.
 pub fn judged(permission: u64, stamp: u64, limit: u64, minute: u64) -> Reading
     requires { bad_time limit minute ≡ false }
-    ensures { said_reading result ≡ verdict limit minute permission stamp }
+    ensures { said_reading (Ok result) ≡ verdict limit minute permission stamp }
 {
     let told = (permission % 4294967296) as u32;
     if minute < stamp {
@@ -61,18 +61,9 @@ pub fn judged(permission: u64, stamp: u64, limit: u64, minute: u64) -> Reading
 
 // The answer is fresh: serve marks by what it says.
 pub fn is_fresh(told: Reading) -> bool
-    ensures { result ≡ says_fresh (said_reading told) }
+    ensures { result ≡ says_fresh (said_reading (Ok told)) }
 {
-    match told {
-        Reading::Fresh {
-            permission: _,
-            left: _,
-        } => true,
-        Reading::Absent => false,
-        Reading::Old { left: _ } => false,
-        Reading::Ahead => false,
-        Reading::Refused(_) => false,
-    }
+    matches!(told, Reading::Fresh { .. })
 }
 
 // The minutes of a set are out of range: now is no minute, or the minute of issue is later. One test tells both, for behind the last
@@ -80,7 +71,7 @@ pub fn is_fresh(told: Reading) -> bool
 pub fn is_bad_grant(g: Grant) -> bool
     ensures { result ≡ bad_grant g }
 {
-    std::num::wrapping_add_u64(g.minute, 1) <= g.issued
+    g.minute.wrapping_add(1) <= g.issued
 }
 
 // The list is late for an animal that is held with that stamp: the stamp is later, and not retired.
