@@ -1,7 +1,7 @@
 -- What a caller may know of what was found: where it is and how many places were looked at. Assumes nothing.
 use Prim.Native.Nat.{ℕ, ◌+◌, ◌*◌, ◌<◌, suc, ◌≤◌, zero}
 use native.Mathlib.Omega.{arith}
-use mathlib.Core.Path.{◌≡◌, refl, sym}
+use mathlib.Core.Path.{◌≡◌, refl, sym, ◌∙◌}
 use mathlib.Core.Bool.{true, false}
 use Rattle.std.specs.Prelude.{Option, Some, None}
 use mathlib.Core.List.{List}
@@ -13,11 +13,8 @@ use Rattle.model.specs.Calls.{some_live, vacant_place}
 use Rattle.model.specs.WellFormed.{Live}
 use Rattle.model.proofs.ListLaws.{First, bool, first_is, found, in_range, missing, range_in, true_false}
 use Rattle.model.proofs.Clock.{Sought, always_victim, live_is, live_true, nobody, somebody, sought}
-use Rattle.places.specs.Walks.{first_with, place_found, scanned}
-use Rattle.places.specs.declared.Scan.{Scan}
-use Rattle.places.specs.declared.Scan.TheVariants.{Victim as Taken, Nobody}
-use Rattle.places.specs.declared.Place.{Place}
-use Rattle.places.specs.declared.Place.TheVariants.{At}
+use Rattle.places.specs.Walks.{first_with, scanned}
+use Rattle.places.specs.declared.Victim.{Victim as Found}
 
 -- a victim was found at no more than k places looked at
 abbrev AtMost : ℕ → Option Victim → Type 0
@@ -67,30 +64,24 @@ live_none m l hand hm e = go (first_is (live l) (range 0 m))
     go (missing h) = refl
 
 -- the same of the code's answer
-module _ (m : ℕ) (l : List ℕ) (hand : ℕ) {r : Scan} (e : scanned r ≡ victim m l hand) where
-  pub scan_victim : {p n : ℕ} → r ≡ Taken p n → victim m l hand ≡ Some (record { place = p; looked = n })
-  scan_victim q = sym (rw q at e)
+module _ (m : ℕ) (l : List ℕ) (hand : ℕ) {r : Option Found} (e : scanned r ≡ victim m l hand) where
+  pub scan_within : {v : Found} → hand < m → r ≡ Some v → Within m l (record { place = v.place; looked = v.looked })
+  scan_within hm q = victim_within m l hand hm (sym (rw q at e))
 
-  pub scan_nobody : r ≡ Nobody → victim m l hand ≡ None
-  scan_nobody q = sym (rw q at e)
-
-  pub scan_within : {p n : ℕ} → hand < m → r ≡ Taken p n → Within m l (record { place = p; looked = n })
-  scan_within hm q = victim_within m l hand hm (scan_victim q)
-
-  pub scan_live : {p n : ℕ} → hand < m → r ≡ Taken p n → some_live m l ≡ true
+  pub scan_live : {v : Found} → hand < m → r ≡ Some v → some_live m l ≡ true
   scan_live h q = let w = scan_within h q in live_one m l _ w.below w.alive
 
-  pub scan_empty : hand < m → r ≡ Nobody → some_live m l ≡ false
-  scan_empty h q = live_none m l hand h (scan_nobody q)
+  pub scan_empty : hand < m → r ≡ None → some_live m l ≡ false
+  scan_empty h q = live_none m l hand h (sym (rw q at e))
 
 -- a place that was found is one of m places
-pub place_within : (m : ℕ) (l : List ℕ) (x : ℕ) {p : ℕ} {r : Place} → place_found r ≡ first_with m l x → r ≡ At p → p < m
-place_within m l x {p} e q = go (first_is (λ q. eqb (animal l q) x) (range 0 m)) (sym (rw q at e))
+pub place_within : (m : ℕ) (l : List ℕ) (x : ℕ) {p : ℕ} {r : Option ℕ} → r ≡ first_with m l x → r ≡ Some p → p < m
+place_within m l x {p} e q = go (first_is (λ q. eqb (animal l q) x) (range 0 m)) (sym e ∙ q)
   where
     go : {o : Option ℕ} → First (λ q. eqb (animal l q) x) (range 0 m) o → o ≡ Some p → p < m
     go (found {i = i} q t) e = let f : i ≡ p = cc in omega (arith, in_range 0 m q)
     go (missing h) e = let z : ◌≡◌ {A = ℕ} 0 1 = cc in absurd (omega arith)
 
-pub vacant_within : (m : ℕ) (l : List ℕ) {p : ℕ} {r : Place} → place_found r ≡ vacant_place m l → r ≡ At p → p < m
+pub vacant_within : (m : ℕ) (l : List ℕ) {p : ℕ} {r : Option ℕ} → r ≡ vacant_place m l → r ≡ Some p → p < m
 unfolding vacant_place
 vacant_within m l e q = place_within m l 0 e q

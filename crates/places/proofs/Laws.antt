@@ -1,24 +1,21 @@
 -- Laws of the walks: one for each way through a turn of a loop. Assumes nothing.
-use Prim.Native.Nat.{ℕ, ◌+◌, ◌*◌, ◌<◌, suc, ◌≤◌, ◌-◌, zero}
+use Prim.Native.Nat.{ℕ, ◌+◌, ◌*◌, ◌<◌, suc, ◌≤◌, ◌-◌, ◌/◌, zero}
 use native.Mathlib.Nat.{add-zero, sub-zero, mul-add}
 use native.Mathlib.Omega.{arith}
 use native.Mathlib.Decide.{dec_lt}
 use mathlib.Core.Path.{◌≡◌, refl, sym, ◌∙◌}
-use mathlib.Core.Logic.{◌≢◌, dite}
+use mathlib.Core.Logic.{dite}
 use mathlib.Core.Bool.{Bool, true, false, not, ◌&&◌, ◌||◌}
 use Rattle.std.specs.Prelude.{Option, Some, None}
 use mathlib.Core.List.{List}
 use lib.ListN.{get_or}
 use lib.Dec.{eqb, leb}
-use borrow.Author.Tests.{lt-ltb, le-ltb, eq-eqb, eqb-false, ne_eqb, not-false, not-true}
+use borrow.Author.Tests.{lt-ltb, le-ltb, not-true}
 use Rattle.model.specs.Choice.{choose, first, range}
 use Rattle.model.specs.Memory.{animal, recent}
 use Rattle.model.specs.Clock.{next_hand, seek_victim, takes, victim}
-use Rattle.model.specs.Calls.{vacant_place}
 use Rattle.model.proofs.Lent.{and_is}
-use Rattle.places.specs.Walks.{first_from, first_with, none_with, place_found, scanned, without}
-use Rattle.places.specs.declared.Scan.TheVariants.{Victim as Taken, Nobody}
-use Rattle.places.specs.declared.Place.TheVariants.{At, Nowhere}
+use Rattle.places.specs.Walks.{first_from, first_with, none_with, scanned, without}
 
 -- the hand one place on, or back at 0
 pub hand_on : (m h : ℕ) → h + 1 < m → h + 1 ≡ next_hand m h
@@ -59,75 +56,52 @@ module _ {m hand h n : ℕ} {l : List ℕ} (s : Looking m l hand h n) where
       let f : 2 * m - n ≡ suc (2 * m - (n + 1)) = omega arith in
       rw (f, test_is (eqb (animal l h) 0) (eqb (recent l h) 0) (leb m n))
 
-  pub by_taken : n < 2 * m → is_taken m l h n ≡ true → scanned (Taken h (n + 1)) ≡ victim m l hand
+  pub by_taken : n < 2 * m → is_taken m l h n ≡ true → scanned (Some (record { place = h; looked = n + 1 })) ≡ victim m l hand
   by_taken e t = sym (look e ∙ rw t) ∙ s.same
 
   pub by_passed : {g : ℕ} → n < 2 * m → is_taken m l h n ≡ false → g ≡ next_hand m h → Looking m l hand g (n + 1)
   by_passed e t q =
       record { upto = omega arith; within = rw q (hand_below m h s.within); same = rw q (sym (look e ∙ rw t) ∙ s.same) }
 
-  pub by_nobody : 2 * m ≤ n → scanned Nobody ≡ victim m l hand
+  pub by_nobody : 2 * m ≤ n → scanned None ≡ victim m l hand
   unfolding seek_victim
   by_nobody e = let f : 2 * m - n ≡ 0 = omega arith in rw f at s.same
 
--- a walk from place p on, to the first that passes a test
-module _ (f : ℕ → Bool) (m p : ℕ) where
-  first_on : p < m → first f (range p (m - p)) ≡ choose (f p) (Some p) (first f (range (p + 1) (m - (p + 1))))
-  unfolding first range
-  first_on h =
-      let e : m - p ≡ suc (m - (p + 1)) = omega arith in
-      let s : p + 1 ≡ suc p = omega arith in
-      rw (e, s)
+-- no place below q has the number: the rest decides
+pub record NoneYet (m : ℕ) (l : List ℕ) (x q : ℕ) : Type 0 where
+  pub same : first_from m l x q ≡ first_with m l x
 
-  first_end : m ≤ p → first f (range p (m - p)) ≡ None
-  unfolding first range
-  first_end h = let e : m - p ≡ 0 = omega arith in rw e
+pub none_yet : (m : ℕ) (l : List ℕ) (x : ℕ) → NoneYet m l x 0
+none_yet m l x = record { same = let f : m - 0 ≡ m = omega arith in rw f }
 
--- no place from p to q - 1 has the number: the rest decides
-pub record NoneYet (m : ℕ) (l : List ℕ) (x p q : ℕ) : Type 0 where
-  pub same : first_from m l x q ≡ first_from m l x p
+-- one place without the number is passed, or several at once
+by_other : {m x q : ℕ} {l : List ℕ} → NoneYet m l x q → q < m → without l x q ≡ true → NoneYet m l x (q + 1)
+unfolding first range
+by_other {m} {x} {q} {l} s h t =
+    let e : m - q ≡ suc (m - (q + 1)) = omega arith in
+    let k : q + 1 ≡ suc q = omega arith in
+    let n : eqb (animal l q) x ≡ false = not-true (eqb (animal l q) x) t in
+    record { same = sym (rw (e, n, ← k)) ∙ s.same }
 
-pub none_yet : (m : ℕ) (l : List ℕ) (x p : ℕ) → NoneYet m l x p p
-none_yet m l x p = record { same = refl }
-
-abbrev has : List ℕ → ℕ → ℕ → Bool
-has l x q = eqb (animal l q) x
-
-module _ {m x p q : ℕ} {l : List ℕ} (s : NoneYet m l x p q) where
-  pub by_found : q < m → animal l q ≡ x → place_found (At q) ≡ first_from m l x p
-  by_found h a = sym (first_on (has l x) m q h ∙ rw (eq-eqb (animal l q) x a)) ∙ s.same
-
-  pub by_other : q < m → animal l q ≢ x → NoneYet m l x p (q + 1)
-  by_other h a = record { same = sym (first_on (has l x) m q h ∙ rw (ne_eqb (animal l q) x a)) ∙ s.same }
-
-  pub by_none : m ≤ q → place_found Nowhere ≡ first_from m l x p
-  by_none h = sym (first_end (has l x) m q h) ∙ s.same
-
--- n places without the number are passed at once
-by_others : (n : ℕ) {m x p q : ℕ} {l : List ℕ} → NoneYet m l x p q → q + n ≤ m → none_with l x q n ≡ true → NoneYet m l x p (q + n)
+by_others : (n : ℕ) {m x q : ℕ} {l : List ℕ} → NoneYet m l x q → q + n ≤ m → none_with l x q n ≡ true → NoneYet m l x (q + n)
 unfolding none_with
 by_others zero s h t = rw add-zero s
-by_others (suc n) {m} {x} {p} {q} {l} s h t =
+by_others (suc n) {m} {x} {q} {l} s h t =
     let b = and_is (none_with l x q n) (without l x (q + n)) t in
     let e : q + suc n ≡ q + n + 1 = omega arith in
-    rw e (by_other (by_others n s (omega arith) b.0) (omega arith) (eqb-false (animal l (q + n)) x (not-true (has l x (q + n)) b.1)))
+    rw e (by_other (by_others n s (omega arith) b.0) (omega arith) b.1)
 
 -- a turn that passes sixteen places, eight and eight
-pub by_sixteen : {m x p q : ℕ} {l : List ℕ} {a b : Bool} → NoneYet m l x p q → q + 16 ≤ m → a ≡ none_with l x q 8 → b ≡ none_with l x (q + 8) 8
-    → not (a && b) ≡ false → NoneYet m l x p (q + 16)
-by_sixteen {q = q} {a = a} {b = b} s h e f t =
-    let t' = and_is a b (not-false (a && b) t) in
-    let g : q + 16 ≡ q + 8 + 8 = omega arith in
+pub by_turn : {m x t : ℕ} {l : List ℕ} {a b : Bool} → NoneYet m l x (16 * t) → t < m / 16 → a ≡ none_with l x (16 * t) 8
+    → b ≡ none_with l x (16 * t + 8) 8 → (a && b) ≡ true → NoneYet m l x (16 * (t + 1))
+by_turn {t = t} {a = a} {b = b} s h e f q =
+    let t' = and_is a b q in
+    let g : 16 * (t + 1) ≡ 16 * t + 8 + 8 = omega arith in
     rw g (by_others 8 (by_others 8 s (omega arith) (sym e ∙ t'.0)) (omega arith) (sym f ∙ t'.1))
 
 -- where no place so far has it, what is found in the rest is what is asked for
-pub by_rest : {m x p : ℕ} {l : List ℕ} {o : Option ℕ} → NoneYet m l x 0 p → o ≡ first_from m l x p → o ≡ first_with m l x
-by_rest {m} s e = let f : m - 0 ≡ m = omega arith in e ∙ s.same ∙ rw f
-
--- the lowest vacant place is the first with number 0
-pub by_vacant : {m p : ℕ} {l : List ℕ} {o : Option ℕ} → NoneYet m l 0 0 p → o ≡ first_from m l 0 p → o ≡ vacant_place m l
-unfolding vacant_place
-by_vacant s e = by_rest s e
+pub by_rest : {m x p : ℕ} {l : List ℕ} {o : Option ℕ} → NoneYet m l x p → o ≡ first_from m l x p → o ≡ first_with m l x
+by_rest s e = e ∙ s.same
 
 -- the tests of eight places, as the code makes them: the animal words are four words apart
 abbrev other_at : List ℕ → ℕ → ℕ → Bool

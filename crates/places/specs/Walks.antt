@@ -3,20 +3,12 @@ use Rattle.std.specs.Prelude.{ℕ, ◌+◌, suc, ◌-◌, zero, Bool, true, not,
 use Rattle.model.specs.Choice.{first, range}
 use Rattle.model.specs.Memory.{animal}
 use Rattle.model.specs.Clock.{Victim}
-use Rattle.places.specs.declared.Scan.{Scan}
-use Rattle.places.specs.declared.Scan.TheVariants.{Victim as Taken, Nobody}
-use Rattle.places.specs.declared.Place.{Place}
-use Rattle.places.specs.declared.Place.TheVariants.{At, Nowhere}
+use Rattle.places.specs.declared.Victim.{Victim as Found}
 
 -- the victim that the code found
-abbrev pub scanned : Scan → Option Victim
-scanned (Taken p n) = Some (record { place = p; looked = n })
-scanned Nobody = None
-
--- the place that the code found
-abbrev pub place_found : Place → Option ℕ
-place_found (At p) = Some p
-place_found Nowhere = None
+abbrev pub scanned : Option Found → Option Victim
+scanned (Some v) = Some (record { place = v.place; looked = v.looked })
+scanned None = None
 
 -- place q has another number than x; none of the n places from p on has x
 abbrev pub without : List ℕ → ℕ → ℕ → Bool

@@ -1,10 +1,7 @@
 -- `places::find_victim` meets its contract: from where the hand stands it finds what it finds from the start. Assumes nothing.
 use native.Mathlib.Omega.{arith}
-use Rattle.places.proofs.Laws.{look_first, by_taken, by_passed, by_nobody}
+use Rattle.places.proofs.Laws.{by_taken, by_passed, by_nobody}
 use Rattle.places.proofs.find_victim.Goals as goal
-
-pub loop-looked-init : goal.loop-looked-init
-loop-looked-init c = search look_first
 
 pub returns-then-animal-recent : goal.returns-then-animal-recent
 returns-then-animal-recent c = by_taken (search) (omega arith) (search)

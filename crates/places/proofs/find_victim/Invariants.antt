@@ -1,9 +1,5 @@
-use Prim.Native.Nat.{◌-◌, ◌*◌}
 use Rattle.places.proofs.Laws.{Looking}
 use Rattle.places.proofs.find_victim.Given as goal
 
 abbrev pub invariant-loop-looked : goal.invariant-loop-looked
 invariant-loop-looked l = Looking l.m l.items l.initial.h.at l.h.at l.looked
-
-abbrev pub decreases-loop-looked : goal.decreases-loop-looked
-decreases-loop-looked l = 2 * l.m - l.looked

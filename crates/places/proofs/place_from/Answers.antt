@@ -1,15 +1,8 @@
--- `places::place_from` meets its contract: where no place so far has the number, the rest decides. Assumes nothing.
-use Rattle.places.proofs.Laws.{none_yet, by_found, by_other, by_none}
+-- `places::place_from` meets its contract. Assumes nothing.
+use mathlib.Core.Path.{refl}
+use borrow.Author.Rules.{rules}
+use Rattle.places.proofs.Finds.{by_find}
 use Rattle.places.proofs.place_from.Goals as goal
 
-pub loop-q-init : goal.loop-q-init
-loop-q-init c = search none_yet
-
-pub returns-then-items-q : goal.returns-then-items-q
-returns-then-items-q c = search by_found
-
-pub loop-q-preserved : goal.loop-q-preserved
-loop-q-preserved c = search by_other
-
 pub returns : goal.returns
-returns c = search by_none
+returns c = by_find _ _ _ _ c.find.ensures.ran refl refl (λ x b q k. search rules)

@@ -1,16 +1,7 @@
 -- `places::place_of` meets its contract: sixteen places without the number are passed at once. Assumes nothing.
-use Rattle.places.proofs.Laws.{none_yet, by_sixteen, by_rest}
-use borrow.Author.Rules.{rules}
+use native.Mathlib.Omega.{arith}
+use Rattle.places.proofs.Laws.{by_turn}
 use Rattle.places.proofs.place_of.Goals as goal
 
-pub loop-p-init : goal.loop-p-init
-loop-p-init c = (search none_yet, search rules)
-
-pub returns-then-not-near-far : goal.returns-then-not-near-far
-returns-then-not-near-far c = search by_rest
-
-pub loop-p-preserved : goal.loop-p-preserved
-loop-p-preserved c = (search by_sixteen, search rules)
-
-pub returns : goal.returns
-returns c = search by_rest
+pub loop-turn-preserved : goal.loop-turn-preserved
+loop-turn-preserved c = by_turn c.loop-turn.invariant (omega arith) c.eight_without-near.ensures c.eight_without-far.ensures c.if-not-near-far.false

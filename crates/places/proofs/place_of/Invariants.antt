@@ -1,9 +1,6 @@
-use Prim.Native.Nat.{◌≤◌, ◌-◌}
+use Prim.Native.Nat.{◌*◌}
 use Rattle.places.proofs.Laws.{NoneYet}
 use Rattle.places.proofs.place_of.Given as goal
 
-abbrev pub invariant-loop-p : goal.invariant-loop-p
-invariant-loop-p l = NoneYet l.m l.items l.x 0 l.p × (l.p ≤ l.m)
-
-abbrev pub decreases-loop-p : goal.decreases-loop-p
-decreases-loop-p l = l.m - l.p
+abbrev pub invariant-loop-turn : goal.invariant-loop-turn
+invariant-loop-turn l = NoneYet l.m l.items l.x (16 * l.turn)
