@@ -2,10 +2,11 @@
 // The program itself ends with status 0 always: with --status the status goes to descriptor 3 as a digit, where ./replay takes it.
 #![tactic(auto)]
 
-ghost use Rattle.std.specs.Prelude.{◌≡◌, ◌≢◌, true, ◌+◌, ◌≤◌, length};
+ghost use Rattle.std.specs.Prelude.{◌≡◌, ◌≢◌, true, ◌+◌, ◌≤◌, length, IfOk};
 ghost use Rattle.replay_rows.specs.Replayed.{missed, status as status_of};
 
 use std::env::{Env, FillError};
+use std::fmt;
 use std::fs::{self, File, OpenOptions};
 use std::io::{self, Cursor, IsTerminal, Read, Write};
 
@@ -27,14 +28,10 @@ fn say_why(rt: &HostRuntime, failure: &io::Error) {
     let mut line = Cursor::new([0u8; 256]);
     let _ = write!(line, "{failure}");
     let text = line.into_inner();
-    let mut n = 0;
-    while n < text.len() {
-        if text[n] == 0 || text[n..].starts_with(b" (os error ") {
-            break;
-        }
-        n += 1;
-    }
-    say(rt, &text[..n]);
+    let end = (0..text.len())
+        .position(|n| text[n] == 0 || text[n..].starts_with(b" (os error "))
+        .unwrap_or(text.len());
+    say(rt, &text[..end]);
 }
 
 // What failed, a colon and why.
@@ -82,12 +79,8 @@ fn replay_in<F: Read>(
     let mut more = [0u8; 1];
     match from.read(&mut more) {
         Ok(0) => replay_text(rt, &text[..n], echo),
-        Ok(_) => {
-            if n < text.len() {
-                return refuse(rt, b"replay: a read failed, nothing was replayed\n");
-            }
-            refuse_longer(rt, n)
-        }
+        Ok(_) if n < text.len() => refuse(rt, b"replay: a read failed, nothing was replayed\n"),
+        Ok(_) => refuse_longer(rt, n),
         Err(failure) => {
             fail(rt, name, &failure);
             NOTHING
@@ -102,104 +95,73 @@ fn refuse_longer(rt: &HostRuntime, n: usize) -> u8
     NOTHING
 }
 
-// What the arguments ask for: `file` is the number of the one that names the file, 0 if none does.
+// Why nothing is replayed of what the arguments ask for.
 #[derive(Clone, Copy)]
+enum Misuse {
+    TooLong,
+    NoOption,
+    TwoFiles,
+    NoFile,
+}
+
+impl fmt::Display for Misuse {
+    fn fmt<W: fmt::Write>(&self, f: &mut fmt::Formatter<W>) -> fmt::Result {
+        f.write_str(match self {
+            Misuse::TooLong => "an argument is too long",
+            Misuse::NoOption => "there is no such option; replay --help tells which there are",
+            Misuse::TwoFiles => "more than one file",
+            Misuse::NoFile => "no file, see --help",
+        })
+    }
+}
+
+// What the arguments ask for: `file` is the number of the one that names the file.
+#[derive(Clone, Copy, Default)]
 struct Asked {
-    what: u32,
-    file: usize,
+    file: Option<usize>,
     echo: bool,
     status: bool,
 }
 
-const REPLAY: u32 = 0;
-
-const TOO_LONG: u32 = 1;
-
-const NO_OPTION: u32 = 2;
-
-const TWO_FILES: u32 = 3;
-
-fn asks(asked: Asked, what: u32) -> Asked {
-    Asked {
-        what,
-        file: asked.file,
-        echo: asked.echo,
-        status: asked.status,
-    }
-}
-
-// With argument i; what is asked first is done.
-fn with_argument(asked: Asked, i: usize, word: &[u8]) -> Asked {
-    if asked.what != REPLAY {
-        return asked;
-    }
-    if replay_words::is_word(word, b"--echo") {
-        return Asked {
-            what: asked.what,
-            file: asked.file,
-            echo: true,
-            status: asked.status,
-        };
-    }
-    if replay_words::is_word(word, b"--status") {
-        return Asked {
-            what: asked.what,
-            file: asked.file,
-            echo: asked.echo,
-            status: true,
-        };
-    }
-    if is_option(word) {
-        return asks(asked, NO_OPTION);
-    }
-    if asked.file != 0 {
-        return asks(asked, TWO_FILES);
-    }
-    Asked {
-        what: asked.what,
-        file: i,
-        echo: asked.echo,
-        status: asked.status,
-    }
-}
-
-fn with_long_argument(asked: Asked) -> Asked {
-    if asked.what != REPLAY {
-        return asked;
-    }
-    asks(asked, TOO_LONG)
-}
-
-// A bare - is standard input.
-fn is_option(word: &[u8]) -> bool {
-    if word.len() < 2 {
-        return false;
-    }
-    word[0] == b'-'
-}
-
-fn arguments(rt: &HostRuntime) -> Asked {
-    let mut space = [0u8; 4096];
-    let mut asked = Asked {
-        what: REPLAY,
-        file: 0,
-        echo: false,
-        status: false,
-    };
-    for i in 1..usize::MAX {
-        match rt.arg(i, &mut space) {
-            Ok(n) => asked = with_argument(asked, i, &space[..n]),
-            Err(FillError::TooLong) => asked = with_long_argument(asked),
-            Err(FillError::NotPresent) => return asked,
+impl Asked {
+    // Argument i.
+    fn take(&mut self, i: usize, word: &[u8]) -> Result<(), Misuse> {
+        match word {
+            b"--echo" => self.echo = true,
+            b"--status" => self.status = true,
+            // A bare - is standard input.
+            [b'-', _, ..] => return Err(Misuse::NoOption),
+            _ if self.file.is_some() => return Err(Misuse::TwoFiles),
+            _ => self.file = Some(i),
         }
+        Ok(())
     }
-    asked
+
+    // All of them, up to the first that is none.
+    fn take_all(&mut self, rt: &HostRuntime) -> Result<(), Misuse> {
+        let mut space = [0u8; 4096];
+        for i in 1..usize::MAX {
+            match rt.arg(i, &mut space) {
+                Ok(n) => self.take(i, &space[..n])?,
+                Err(FillError::TooLong) => return Err(Misuse::TooLong),
+                Err(FillError::NotPresent) => break,
+            }
+        }
+        Ok(())
+    }
 }
 
 fn refuse(rt: &HostRuntime, words: &[u8]) -> u8
     ensures { result ≤ 2 }
 {
     say(rt, words);
+    NOTHING
+}
+
+fn refuse_misuse(rt: &HostRuntime, misuse: Misuse) -> u8
+    ensures { result ≤ 2 }
+{
+    let _ = eprintln!(rt; "replay: {misuse}");
     NOTHING
 }
 
@@ -216,11 +178,10 @@ fn replay_file(rt: &HostRuntime, text: &mut [u8], file: usize, echo: bool) -> u8
 {
     let mut space = [0u8; 4096];
     let n = rt.arg(file, &mut space).unwrap_or(0);
-    let path = &space[..n];
-    if replay_words::is_word(path, b"-") {
-        return replay_stdin(rt, text, echo);
+    match &space[..n] {
+        b"-" => replay_stdin(rt, text, echo),
+        path => replay_path(rt, text, path, echo),
     }
-    replay_path(rt, text, path, echo)
 }
 
 // std opens no file whose name is not UTF-8.
@@ -241,28 +202,27 @@ fn replay_path(rt: &HostRuntime, text: &mut [u8], path: &[u8], echo: bool) -> u8
     }
 }
 
-fn act(rt: &HostRuntime, text: &mut [u8], asked: Asked) -> u8
+// The file, or standard input where none is named.
+fn act(rt: &HostRuntime, text: &mut [u8], asked: Asked) -> Result<u8, Misuse>
     requires { length text.old ≤ 2097152 }
-    ensures { result ≤ 2 }
+    ensures { IfOk result (λ status. status ≤ 2) }
 {
-    let what = asked.what;
-    match what {
-        TOO_LONG => refuse(rt, b"replay: an argument is too long\n"),
-        NO_OPTION => refuse(
-            rt,
-            b"replay: there is no such option; replay --help tells which there are\n",
-        ),
-        TWO_FILES => refuse(rt, b"replay: more than one file\n"),
-        _ => {
-            if asked.file != 0 {
-                return replay_file(rt, text, asked.file, asked.echo);
-            }
-            if rt.stdin().is_terminal() {
-                return refuse(rt, b"replay: no file, see --help\n");
-            }
-            replay_stdin(rt, text, asked.echo)
-        }
+    if let Some(file) = asked.file {
+        return Ok(replay_file(rt, text, file, asked.echo));
     }
+    if rt.stdin().is_terminal() {
+        return Err(Misuse::NoFile);
+    }
+    Ok(replay_stdin(rt, text, asked.echo))
+}
+
+// What is asked before a misuse stays in `asked`.
+fn obey(rt: &HostRuntime, text: &mut [u8], asked: &mut Asked) -> Result<u8, Misuse>
+    requires { length text.old ≤ 2097152 }
+    ensures { IfOk result (λ status. status ≤ 2) }
+{
+    asked.take_all(rt)?;
+    act(rt, text, *asked)
 }
 
 fn digit(status: u8) -> u8
@@ -292,14 +252,11 @@ fn takes_status(rt: &HostRuntime) -> bool {
 
 // Opened for reading too, a pipe whose reader is gone does not wait for another.
 fn open_status(rt: &HostRuntime) -> io::Result<File> {
-    let both = OpenOptions::new()
+    OpenOptions::new()
         .read(true)
         .append(true)
-        .open(rt, STATUS_PATH);
-    if both.is_ok() {
-        return both;
-    }
-    OpenOptions::new().append(true).open(rt, STATUS_PATH)
+        .open(rt, STATUS_PATH)
+        .or_else(|_| OpenOptions::new().append(true).open(rt, STATUS_PATH))
 }
 
 // Behind what descriptor 3 was given before. Where it is not open, nobody hears the digit.
@@ -319,11 +276,13 @@ pub fn run(rt: &HostRuntime, text: &mut [u8]) -> u8
     requires { length text.old ≤ 2097152 }
     ensures { result ≤ 2 }
 {
-    let asked = arguments(rt);
-    let status = act(rt, text, asked);
+    let mut asked = Asked::default();
+    let status = match obey(rt, text, &mut asked) {
+        Ok(status) => status,
+        Err(misuse) => refuse_misuse(rt, misuse),
+    };
     if asked.status {
         tell(rt, status);
-        return status;
     }
     status
 }
