@@ -1,9 +1,15 @@
 -- `starting::fresh` meets its contract. Assumes nothing.
+use Rattle.std.proofs.Common.{◌≡◌, length, replicate, arith}
+use Rattle.std.proofs.lemmas.Grind.{common_steps}
 use Rattle.starting.proofs.Starting.{fresh_refused, fresh_made}
 use Rattle.starting.proofs.fresh.Goals as goal
 
-pub returns-then-not-good : goal.returns-then-not-good
-returns-then-not-good c = search fresh_refused
+pub returns-then-not-lengths_are_good : goal.returns-then-not-lengths_are_good
+returns-then-not-lengths_are_good c = search fresh_refused
 
 pub returns : goal.returns
-returns c = search fresh_made
+returns c =
+    let s : c.fill.new.self ≡ replicate (length c.args.slots.now) 0 = grind (arith, common_steps) in
+    let v : c.fill-2.new.self ≡ replicate (length c.args.counters.now) 0 = grind (arith, common_steps) in
+    let i : c.fill-3.new.self ≡ replicate (length c.args.items.now) 0 = grind (arith, common_steps) in
+    search fresh_made
