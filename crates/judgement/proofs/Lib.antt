@@ -10,8 +10,7 @@ pub mod Sound
 pub mod Judges
 pub mod Refuted
 pub mod FromThenOn
--- A walk of the code to the first that breaks a condition; its outcomes
-pub mod Walk
+-- The code's outcomes
 pub mod Decides
 -- The roof
 pub mod Theorems

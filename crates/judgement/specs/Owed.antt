@@ -1,5 +1,5 @@
 -- Every statement that is owed of the judge; proofs/Theorems has them all. Assumes nothing.
-use Rattle.std.specs.Prelude.{ℕ, ◌/◌, ◌≡◌, ◌≢◌, ◌↔◌, true, length, eqb}
+use Rattle.std.specs.Prelude.{ℕ, ◌/◌, ◌≡◌, ◌≢◌, ◌↔◌, true, length, eqb, Result}
 use Rattle.model.specs.Choice.{any, range}
 use Rattle.model.specs.Memory.{Mem, animal, place, word}
 use Rattle.model.specs.Shape.{Ways, eight, four, homes, right_lengths, shape_of}
@@ -12,7 +12,7 @@ use Rattle.judgement.specs.Judges.{Good, Judges, OursPass, DoubledIff, StrayIff,
 use Rattle.judgement.specs.FromThenOn.{SoundThenDemands}
 use Rattle.judgement.specs.Said.{said}
 use Rattle.judgement.specs.Examples.{verdicts}
-use Rattle.judgement.specs.declared.Judgement.{Judgement}
+use Rattle.judgement.specs.declared.Broken.{Broken}
 
 module _ (W : Ways) (m : Mem) where
   -- condition 4 holds of every slot; and 5 of every place
@@ -58,6 +58,6 @@ pub record Owed : Type 0 where
   pub unsought_iff : (W : Ways) (m : Mem) → UnsoughtIff (shape_of W m) m
   pub doubled_iff : (W : Ways) (m : Mem) → right_lengths W m ≡ true → DoubledIff (shape_of W m) m
   -- the call's contract leaves nothing open
-  pub decides_judge : (W : Ways) (m : Mem) (r s : Judgement) → said r ≡ judgement W m → said s ≡ judgement W m → r ≡ s
+  pub decides_judge : (W : Ways) (m : Mem) (r s : Result Unit Broken) → said r ≡ judgement W m → said s ≡ judgement W m → r ≡ s
   -- the definitions say what the wish says at its edges
   pub all_hold : AllHold verdicts

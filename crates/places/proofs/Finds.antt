@@ -1,11 +1,12 @@
 -- What the library's searches find is the first number that passes. Assumes nothing.
 use Prim.Native.Nat.{ℕ, zero, suc, ◌+◌, ◌-◌, ◌<◌, ◌≤◌}
 use native.Mathlib.Omega.{arith}
-use native.Mathlib.Decide.{ℕ_discrete}
-use mathlib.Core.Path.{◌≡◌, refl, sym}
+use native.Mathlib.Decide.{ℕ_discrete, dec_lt}
+use mathlib.Core.Path.{◌≡◌, refl, sym, ◌∙◌}
 use mathlib.Core.Logic.{dite}
 use mathlib.Core.Bool.{Bool, true, false}
 use mathlib.Core.List.{List}
+use lib.ListN.{length, get_or}
 use denote.Ref.{Bor}
 use denote.Param.Members.{Mut}
 use Rattle.std.specs.Prelude.{Option, Some, None}
@@ -13,10 +14,13 @@ use Rattle.std.specs.Bool.{⊤}
 use Rattle.std.specs.Option.{MatchOption}
 use Rattle.std.specs.Fn.{CalledAt}
 use Rattle.std.specs.Iterator.{YieldsThen}
-use Rattle.std.specs.List.{FoldsTo}
+use Rattle.std.specs.List.{FoldsTo, position, position_or_len}
 use Rattle.std.specs.declared.ops.Range.{Range}
 use Rattle.std.proofs.iter.Yields.{nat_range_steps}
 use Rattle.std.proofs.lemmas.Iterator.{first_from_Range}
+use Rattle.std.proofs.lemmas.List.Sums.{fails_before_first}
+use Rattle.std.proofs.lemmas.List.Quantifiers.{position-Some}
+use borrow.Author.Tests.{lt-ltb}
 use Rattle.model.specs.Choice.{first, range}
 
 module _ (f : ℕ → Bool) where
@@ -46,3 +50,16 @@ module _ (f : ℕ → Bool) where
           (λ i. (s.start ≤ i) × (i < s.end) × (f i ≡ true) × ((k : ℕ) → s.start ≤ k → k < i → f k ≡ false)) → r ≡ first f (range a n)
       go None h = none_first a n (λ k l l'. h k (omega arith) (omega arith))
       go (Some i) h = lowest_first a n i (omega (arith, h.0)) (omega (arith, h.1)) h.2 (λ k l l'. h.3 k (omega arith) l')
+
+-- `position` over a run of numbers, by what it says of the test
+pub by_position : (t : ℕ → Bool) (xs : List ℕ) {r : Option ℕ} → r ≡ position t xs → r ≡ first (λ i. t (get_or xs i 0)) (range 0 (length xs))
+by_position t xs e = e ∙ go (position t xs) refl
+  where
+    f : ℕ → Bool
+    f i = t (get_or xs i 0)
+
+    go : (o : Option ℕ) → position t xs ≡ o → o ≡ first f (range 0 (length xs))
+    go (Some i) q = let h = position-Some t xs i 0 q in lowest_first f 0 (length xs) i (omega arith) (omega (arith, h.0)) h.1 (λ k l. h.2 k)
+    go None q =
+        none_first f 0 (length xs) λ k l l'. fails_before_first t xs k 0 (dite (dec_lt (position_or_len t xs) (length xs))
+        (λ h. let z : ◌≡◌ {A = Option ℕ} (Some (position_or_len t xs)) None = rw (lt-ltb (position_or_len t xs) (length xs) h) at q in cc) (λ h. omega arith))
