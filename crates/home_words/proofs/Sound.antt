@@ -13,7 +13,7 @@ use borrow.Author.Tests.{eq-eqb, ne_eqb, leb-false}
 use Rattle.model.specs.Choice.{any, choose, first}
 use Rattle.model.specs.Memory.{damaged, place, tag}
 use Rattle.model.proofs.ListLaws.{bool, true_false}
-use Rattle.home_words.specs.HomeWords.{found_word, leads, tag_sum}
+use Rattle.home_words.specs.HomeWords.{leads, tag_sum}
 use Rattle.home_words.proofs.Words.{any_cons, lead_other, sum_small}
 
 or_neither : (a b : Bool) → (a || b) ≡ false → (a ≡ false) × (b ≡ false)
@@ -47,12 +47,12 @@ module _ (M t : ℕ) (pos : 1 ≤ t) where
       rw z (sum_in ws (both_sound w ws d).1 (rw z at e))
 
   -- the word that was found
-  pub found_in : (l : List ℕ) (x : ℕ) (ws : List ℕ) → any (damaged M) ws ≡ false → {w : ℕ} → w ≡ found_word (first (leads l t x) ws) → w ≢ 0 → place w < M
+  pub found_in : (l : List ℕ) (x : ℕ) (ws : List ℕ) → any (damaged M) ws ≡ false → {w : ℕ} → first (leads l t x) ws ≡ Some w → place w < M
   unfolding first
-  found_in l x [] d e nz = absurd (nz e)
-  found_in l x (v ∷ ws) d {w} e nz =
-      bool (λ b. leads l t x v ≡ b → w ≡ found_word (choose b (Some v) (first (leads l t x) ws)) → place w < M) (leads l t x v)
-      (λ q h e. rw e (sound_place M v (has_tag h) (both_sound v ws d).0)) (λ q h e. found_in l x ws (both_sound v ws d).1 e nz) refl e
+  found_in l x [] d e = let z : ◌≡◌ {A = ℕ} 0 1 = cc in absurd (omega arith)
+  found_in l x (v ∷ ws) d {w} e =
+      bool (λ b. leads l t x v ≡ b → choose b (Some v) (first (leads l t x) ws) ≡ Some w → place w < M) (leads l t x v)
+      (λ q h e. let f : v ≡ w = cc in rw (← f) (sound_place M v (has_tag h) (both_sound v ws d).0)) (λ q h e. found_in l x ws (both_sound v ws d).1 e) refl e
     where
       has_tag : leads l t x v ≡ true → 1 ≤ tag v
       has_tag h = dite (ℕ_discrete (tag v) t) (λ q. omega arith) λ nq. true_false h (lead_other l t x v nq)
@@ -68,7 +68,7 @@ pub undamaged : (n : ℕ) (ws : List ℕ) {k : ℕ} {b : Bool} → k ≡ n → b
 undamaged n ws p e f = rw (← p) (sym e ∙ f)
 
 -- the place of a hit lies in the items
-pub hit_reads : (l : List ℕ) (t x : ℕ) (ws : List ℕ) → 1 ≤ t → {k : ℕ} {b : Bool} → k ≡ length l / 4 → b ≡ any (damaged k) ws → b ≡ false
-    → {w : ℕ} → w ≡ found_word (first (leads l t x) ws) → w ≢ 0 → 4 * (w % 65536) + 4 ≤ length l
+pub hit_reads : (l : List ℕ) (t x : ℕ) (ws : List ℕ) → 1 ≤ t → any (damaged (length l / 4)) ws ≡ false → {w : ℕ} → first (leads l t x) ws ≡ Some w
+    → 4 * (w % 65536) + 4 ≤ length l
 unfolding place
-hit_reads l t x ws pos p e f q nz = omega (arith, found_in (length l / 4) t pos l x ws (undamaged (length l / 4) ws p e f) q nz)
+hit_reads l t x ws pos d q = omega (arith, found_in (length l / 4) t pos l x ws d q)

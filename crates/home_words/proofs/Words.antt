@@ -5,24 +5,22 @@ use native.Mathlib.Decide.{ℕ_discrete}
 use mathlib.Core.Path.{◌≡◌, refl, sym, ap, ◌∙◌}
 use mathlib.Core.Logic.{◌≢◌, dite}
 use mathlib.Core.Bool.{Bool, true, false, ◌||◌}
-use Rattle.std.specs.Prelude.{Some, None}
+use Rattle.std.specs.Prelude.{Some, None, cond}
 use mathlib.Core.List.{List, [], ◌∷◌, map, ◌++◌, append-nil}
-use lib.ListN.{get_or}
+use lib.ListN.{get_or, length}
+use Rattle.std.specs.List.{find, fold, sum_by}
+use Rattle.std.specs.Bool.{then_some}
 use lib.Dec.{eqb}
 use borrow.Author.Tests.{eq-eqb, ne_eqb, eqb-true}
 use Rattle.model.specs.Choice.{any, choose, first, there, range}
-use Rattle.model.specs.Memory.{animal, damaged, place, tag}
-use Rattle.model.proofs.ListLaws.{bool, true_false}
-use Rattle.home_words.specs.HomeWords.{or_else, found_word, leads, tag_sum, home_words}
+use Rattle.model.specs.Memory.{animal, place, tag}
+use Rattle.model.proofs.ListLaws.{bool}
+use Rattle.home_words.specs.HomeWords.{leads, tag_sum, home_words}
 
 -- any of a list passes: the first, or any of the rest
 pub any_cons : (f : ℕ → Bool) (w : ℕ) (ws : List ℕ) → any f (w ∷ ws) ≡ (f w || any f ws)
 unfolding first
 any_cons f w ws = bool (λ b. there (choose b (Some w) (first f ws)) ≡ (b || any f ws)) (f w) (λ e. refl) λ e. refl
-
-any_nil : (f : ℕ → Bool) → any f [] ≡ false
-unfolding first
-any_nil f = refl
 
 or_no : (b : Bool) → (b || false) ≡ b
 or_no true = refl
@@ -32,49 +30,49 @@ or_in_turn : (a b c : Bool) → ((a || b) || c) ≡ (a || (b || c))
 or_in_turn true b c = refl
 or_in_turn false b c = refl
 
-any_eight : (f : ℕ → Bool) (a b c d e g h i : ℕ)
-    → ((((f a || f b) || f c) || f d) || (((f e || f g) || f h) || f i)) ≡ any f (a ∷ b ∷ c ∷ d ∷ e ∷ g ∷ h ∷ i ∷ [])
-any_eight f a b c d e g h i = simp (any_cons, any_nil, or_no, or_in_turn)
+-- by the library's words: an eager fold, a sum, a search
+fold_any : (f : ℕ → Bool) (b : Bool) (ws : List ℕ) → fold (λ b w. b || f w) b ws ≡ (b || any f ws)
+unfolding first
+fold_any f b [] = sym (or_no b)
+fold_any f b (w ∷ ws) = fold_any f (b || f w) ws ∙ or_in_turn b (f w) (any f ws) ∙ ap (λ c. b || c) (sym (any_cons f w ws))
+
+pub any_folded : (f : ℕ → Bool) (ws : List ℕ) → fold (λ b w. b || f w) false ws ≡ any f ws
+any_folded f ws = fold_any f false ws
+
+fold_sum : (t z : ℕ) (ws : List ℕ) → fold (λ a w. a + choose (eqb (tag w) t) w 0) z ws ≡ z + tag_sum t ws
+unfolding tag_sum
+fold_sum t z [] = omega arith
+fold_sum t z (w ∷ ws) = fold_sum t (z + choose (eqb (tag w) t) w 0) ws ∙ omega arith
+
+pub sum_folded : (t : ℕ) (ws : List ℕ) → sum_by (λ w. choose (eqb (tag w) t) w 0) ws ≡ tag_sum t ws
+sum_folded t ws = fold_sum t 0 ws ∙ omega arith
+
+pub sum_most : (t : ℕ) → t < 256 → (ws : List ℕ) → tag_sum t ws ≤ 16777216 * length ws
+unfolding tag_sum tag
+sum_most t h [] = omega arith
+sum_most t h (w ∷ ws) =
+    bool (λ b. eqb (w / 65536) t ≡ b → choose b w 0 + tag_sum t ws ≤ 16777216 * suc (length ws)) (eqb (w / 65536) t)
+    (λ q e. let z : w / 65536 ≡ t = eqb-true (w / 65536) t e in omega (arith, sum_most t h ws)) (λ q e. omega (arith, sum_most t h ws)) refl
+
+pub found_first : (f : ℕ → Bool) (ws : List ℕ) → find f ws ≡ first f ws
+unfolding first
+found_first f [] = refl
+found_first f (w ∷ ws) = bool (λ b. cond b (Some w) (find f ws) ≡ choose b (Some w) (first f ws)) (f w) (λ e. refl) λ e. found_first f ws
 
 -- the last of m places
 pub last_is : (m : ℕ) → (1 ≤ m) × (m ≤ 65536) → suc ((m - 1) % 65536) ≡ m
 last_is m h = omega arith
-
--- a test of eight words, one by one
-pub by_tests : (f : ℕ → Bool) (a b c d e g h i : ℕ) {p₀ p₁ p₂ p₃ p₄ p₅ p₆ p₇ : Bool}
-    → p₀ ≡ f a → p₁ ≡ f b → p₂ ≡ f c → p₃ ≡ f d → p₄ ≡ f e → p₅ ≡ f g → p₆ ≡ f h → p₇ ≡ f i
-    → ((((p₀ || p₁) || p₂) || p₃) || (((p₄ || p₅) || p₆) || p₇)) ≡ any f (a ∷ b ∷ c ∷ d ∷ e ∷ g ∷ h ∷ i ∷ [])
-by_tests f a b c d e g h i q₀ q₁ q₂ q₃ q₄ q₅ q₆ q₇ = rw (q₀, q₁, q₂, q₃, q₄, q₅, q₆, q₇) (any_eight f a b c d e g h i)
-
-pub by_eight : (M a b c d e g h i : ℕ) {l : ℕ} → suc l ≡ M → {p₀ p₁ p₂ p₃ p₄ p₅ p₆ p₇ : Bool}
-    → p₀ ≡ damaged (suc l) a → p₁ ≡ damaged (suc l) b → p₂ ≡ damaged (suc l) c → p₃ ≡ damaged (suc l) d
-    → p₄ ≡ damaged (suc l) e → p₅ ≡ damaged (suc l) g → p₆ ≡ damaged (suc l) h → p₇ ≡ damaged (suc l) i
-    → ((((p₀ || p₁) || p₂) || p₃) || (((p₄ || p₅) || p₆) || p₇)) ≡ any (damaged M) (a ∷ b ∷ c ∷ d ∷ e ∷ g ∷ h ∷ i ∷ [])
-by_eight M a b c d e g h i {l} k q₀ q₁ q₂ q₃ q₄ q₅ q₆ q₇ =
-    by_tests (damaged (suc l)) a b c d e g h i q₀ q₁ q₂ q₃ q₄ q₅ q₆ q₇ ∙ ap (λ n. any (damaged n) (a ∷ b ∷ c ∷ d ∷ e ∷ g ∷ h ∷ i ∷ [])) k
-
-pub one_with : (t w : ℕ) → tag w ≡ t → w ≡ tag_sum t (w ∷ [])
-unfolding tag_sum
-one_with t w e = rw (eq-eqb (tag w) t e) (omega arith)
-
-pub one_without : (t w : ℕ) → tag w ≢ t → 0 ≡ tag_sum t (w ∷ [])
-unfolding tag_sum
-one_without t w e = rw (ne_eqb (tag w) t e)
 
 pub lead_other : (l : List ℕ) (t x w : ℕ) → tag w ≢ t → leads l t x w ≡ false
 unfolding leads
 lead_other l t x w ne = rw (ne_eqb (tag w) t ne)
 
 -- one word alone
-pub alone_other : (l : List ℕ) (t x w : ℕ) → tag w ≢ t → 0 ≡ found_word (first (leads l t x) (w ∷ []))
-unfolding first
-alone_other l t x w ne = rw (lead_other l t x w ne)
-
-alone_strange : (l : List ℕ) (t x w : ℕ) → tag w ≡ t → animal l (place w) ≢ x → 0 ≡ found_word (first (leads l t x) (w ∷ []))
+alone_strange : (l : List ℕ) (t x w : ℕ) → tag w ≡ t → animal l (place w) ≢ x → None ≡ first (leads l t x) (w ∷ [])
 unfolding first leads
 alone_strange l t x w e ne = rw (eq-eqb (tag w) t e, ne_eqb (animal l (place w)) x ne)
 
-alone_hit : (l : List ℕ) (t x w : ℕ) → tag w ≡ t → animal l (place w) ≡ x → w ≡ found_word (first (leads l t x) (w ∷ []))
+alone_hit : (l : List ℕ) (t x w : ℕ) → tag w ≡ t → animal l (place w) ≡ x → Some w ≡ first (leads l t x) (w ∷ [])
 unfolding first leads
 alone_hit l t x w e e' = rw (eq-eqb (tag w) t e, eq-eqb (animal l (place w)) x e')
 
@@ -115,60 +113,23 @@ module _ (t : ℕ) (pos : 1 ≤ t) where
         let z : choose (eqb (w / 65536) t) w 0 + tag_sum t ws ≡ tag_sum t ws = omega arith in
         rw (z, lead_other l t x w nq) (hit_one ws (rw z at e))
 
-    leading : (w : ℕ) → lead w ≡ true → w ≢ 0
-    unfolding tag
-    leading w e z = dite (ℕ_discrete (tag w) t) (λ q. absurd (omega arith)) λ nq. true_false e (lead_other l t x w nq)
-
-    -- the first of a word and the rest
-    pub hit_cons : (w : ℕ) (ws : List ℕ) → found_word (first lead (w ∷ ws)) ≡ or_else (found_word (first lead (w ∷ []))) (found_word (first lead ws))
-    unfolding first
-    hit_cons w ws =
-        bool (λ b. lead w ≡ b → found_word (choose b (Some w) (first lead ws)) ≡ or_else (found_word (choose b (Some w) None)) (found_word (first lead ws)))
-        (lead w) (λ q e. rw (ne_eqb w 0 (leading w e))) (λ q e. refl) refl
-
--- the same with the number that was read
-module _ (l : List ℕ) (t x w : ℕ) {v : ℕ} (e : w / 65536 ≡ t) (number : v ≡ get_or l (4 * (w % 65536)) 0) where
-  pub alone_by_stranger : v ≢ x → 0 ≡ found_word (first (leads l t x) (w ∷ []))
-  unfolding tag place
-  alone_by_stranger q = alone_strange l t x w e (λ f. q (number ∙ f))
-
-  pub alone_by_number : v ≡ x → w ≡ found_word (first (leads l t x) (w ∷ []))
-  unfolding tag place
-  alone_by_number q = alone_hit l t x w e (sym number ∙ q)
-
 -- the ways out of the search for the hit word, in the code's own words
 module _ (l : List ℕ) (t x : ℕ) {w : ℕ} (ws : List ℕ) (known : (1 ≤ t) × (w ≡ tag_sum t ws)) where
-  pub by_no_tag : w ≡ 0 → 0 ≡ found_word (first (leads l t x) ws)
-  by_no_tag z = sym (ap found_word (hit_none t known.0 l x ws (sym known.1 ∙ z)))
+  pub by_no_tag : w ≡ 0 → None ≡ first (leads l t x) ws
+  by_no_tag z = sym (hit_none t known.0 l x ws (sym known.1 ∙ z))
 
   module _ (e : w / 65536 ≡ t) where
     one_word : first (leads l t x) ws ≡ first (leads l t x) (w ∷ [])
     unfolding tag
     one_word = rw known.1 (hit_one t known.0 l x ws (rw known.1 at e))
 
-    pub by_number : get_or l (4 * (w % 65536)) 0 ≡ x → w ≡ found_word (first (leads l t x) ws)
-    by_number q = alone_by_number l t x w e refl q ∙ sym (ap found_word one_word)
-
-    pub by_stranger : get_or l (4 * (w % 65536)) 0 ≢ x → 0 ≡ found_word (first (leads l t x) ws)
-    by_stranger q = alone_by_stranger l t x w e refl q ∙ sym (ap found_word one_word)
-
--- slot by slot
-pub by_slots : (l : List ℕ) (t x : ℕ) → 1 ≤ t → (a b c d e g h i : ℕ) {a₇ b₆ a₆ b₅ a₅ b₄ a₄ b₃ a₃ b₂ a₂ b₁ a₁ b₀ r : ℕ}
-    → a₇ ≡ found_word (first (leads l t x) (i ∷ []))
-    → b₆ ≡ found_word (first (leads l t x) (h ∷ [])) → a₆ ≡ or_else b₆ a₇
-    → b₅ ≡ found_word (first (leads l t x) (g ∷ [])) → a₅ ≡ or_else b₅ a₆
-    → b₄ ≡ found_word (first (leads l t x) (e ∷ [])) → a₄ ≡ or_else b₄ a₅
-    → b₃ ≡ found_word (first (leads l t x) (d ∷ [])) → a₃ ≡ or_else b₃ a₄
-    → b₂ ≡ found_word (first (leads l t x) (c ∷ [])) → a₂ ≡ or_else b₂ a₃
-    → b₁ ≡ found_word (first (leads l t x) (b ∷ [])) → a₁ ≡ or_else b₁ a₂
-    → b₀ ≡ found_word (first (leads l t x) (a ∷ [])) → r ≡ or_else b₀ a₁
-    → r ≡ found_word (first (leads l t x) (a ∷ b ∷ c ∷ d ∷ e ∷ g ∷ h ∷ i ∷ []))
-by_slots l t x pos a b c d e g h i p₇ q₆ p₆ q₅ p₅ q₄ p₄ q₃ p₃ q₂ p₂ q₁ p₁ q₀ p₀ =
-    on a _ p₀ q₀ (on b _ p₁ q₁ (on c _ p₂ q₂ (on d _ p₃ q₃ (on e _ p₄ q₄ (on g _ p₅ q₅ (on h (i ∷ []) p₆ q₆ p₇))))))
-  where
-    on : (w : ℕ) (ws : List ℕ) {r b r' : ℕ} → r ≡ or_else b r' → b ≡ found_word (first (leads l t x) (w ∷ []))
-        → r' ≡ found_word (first (leads l t x) ws) → r ≡ found_word (first (leads l t x) (w ∷ ws))
-    on w ws p q k = p ∙ rw (q, k) (sym (hit_cons t pos l x w ws))
+    -- the number that its place holds decides
+    pub by_number : then_some (eqb (get_or l (4 * (w % 65536)) 0) x) w ≡ first (leads l t x) ws
+    unfolding tag place
+    by_number =
+        dite (ℕ_discrete (get_or l (4 * (w % 65536)) 0) x)
+        (λ q. rw (eq-eqb _ x q) (alone_hit l t x w e q) ∙ sym one_word)
+        λ nq. rw (ne_eqb _ x nq) (alone_strange l t x w e nq) ∙ sym one_word
 
 -- the words of four slots one after the other
 four_words : (T : List ℕ) (b : ℕ) (rest : List ℕ)
