@@ -1,14 +1,14 @@
 -- Laws on the bytes before the first that passes a test, on lines, and on words. Assumes nothing.
 use Prim.Native.Nat.{ℕ, suc, ◌+◌, ◌-◌, ◌≤◌, ◌<◌}
-use native.Mathlib.Numerals.{add-one}
 use native.Mathlib.Omega.{arith}
-use mathlib.Core.Path.{◌≡◌, refl, sym, ap, ap₂, subst, ◌∙◌}
+use mathlib.Core.Path.{◌≡◌, refl, sym, ap, ap₂, ◌∙◌}
 use mathlib.Core.Logic.{◌≢◌}
-use mathlib.Core.Bool.{Bool, true, false, not, ◌||◌}
+use mathlib.Core.Bool.{Bool, true, false, cond, not}
+use Rattle.std.specs.List.{prefix_len}
+use Rattle.std.proofs.lemmas.List.Sums.{prefix_len-le-length}
 use mathlib.Core.List.{List, [], ◌∷◌}
-use lib.ListN.{length, get_or, take, drop, drop_of_length-le, length-drop}
-use lib.Seq.{drop-cons, drop-drop}
-use lib.Dec.{eqb}
+use lib.ListN.{length, take, drop, drop_of_length-le, length-drop}
+use lib.Seq.{drop-drop, take_all}
 use Rattle.model.specs.Choice.{choose}
 use Rattle.replay_words.specs.Words.{before, filled, is_end, is_gap, is_no_gap, joined, lines, pieces, words}
 use Rattle.replay_words.specs.Cursor.{First, NextWord, PieceAt, part}
@@ -17,45 +17,33 @@ pub bool : (P : Bool → Type 0) (b : Bool) → (b ≡ true → P true) → (b �
 bool P true t f = t refl
 bool P false t f = f refl
 
-module _ (f : ℕ → Bool) (bs : List ℕ) (i : ℕ) where
-  before_here : i < length bs → f (get_or bs i 0) ≡ true → before f (drop i bs) ≡ []
-  unfolding before
-  before_here h e = rw (drop-cons bs i 0 h, e)
+-- how many bytes come before the first that passes a test
+before_count : (f : ℕ → Bool) (bs : List ℕ) → prefix_len (λ b. not (f b)) bs ≡ length (before f bs)
+unfolding before
+before_count f [] = refl
+before_count f (b ∷ bs) =
+    bool (λ t. cond (not t) (1 + prefix_len (λ b. not (f b)) bs) 0 ≡ length (choose t [] (b ∷ before f bs))) (f b) (λ e. refl) λ e. omega (arith, before_count f bs)
 
-  before_next : i < length bs → f (get_or bs i 0) ≡ false → before f (drop i bs) ≡ get_or bs i 0 ∷ before f (drop (i + 1) bs)
-  unfolding before
-  before_next h e = rw (drop-cons bs i 0 h, e, add-one)
+-- the same in what is left from a position on
+left : (bs : List ℕ) (at : ℕ) → take (length bs - at) (drop at bs) ≡ drop at bs
+left bs at = take_all (length bs - at) (drop at bs) (omega (arith, length-drop at bs))
 
-  before_end : length bs ≤ i → before f (drop i bs) ≡ []
-  unfolding before
-  before_end h = rw (drop_of_length-le bs h)
+pub first_behind : (f : ℕ → Bool) {bs : List ℕ} {at r : ℕ} → at ≤ length bs → r ≡ prefix_len (λ b. not (f b)) (take (length bs - at) (drop at bs)) → First f bs at (at + r)
+first_behind f {bs} {at} {r} h e =
+    let q : r ≡ length (before f (drop at bs)) = e ∙ ap (prefix_len (λ b. not (f b))) (left bs at) ∙ before_count f (drop at bs) in
+    record { first = ap (λ (n : ℕ). at + n) q; inside = omega (arith, q, before_count f (drop at bs), prefix_len-le-length (λ b. not (f b)) (drop at bs), length-drop at bs) }
 
--- a search from at has come to i
-pub record Seeking (f : ℕ → Bool) (bs : List ℕ) (at i : ℕ) : Type 0 where
-  pub inside : i ≤ length bs
-  pub ahead : i + length (before f (drop i bs)) ≡ at + length (before f (drop at bs))
+pub first_there : (f : ℕ → Bool) {bs : List ℕ} {r : ℕ} → r ≡ prefix_len (λ b. not (f b)) bs → First f bs 0 r
+first_there f {bs} {r} e =
+    record { first = omega (arith, e ∙ before_count f bs); inside = omega (arith, e, prefix_len-le-length (λ b. not (f b)) bs) }
 
-pub seek_first : {f : ℕ → Bool} {bs : List ℕ} {at : ℕ} → at ≤ length bs → Seeking f bs at at
-seek_first h = record { inside = h; ahead = refl }
+-- the bytes that are no gaps, and those that are
+no_gaps : (bs : List ℕ) → prefix_len is_gap bs ≡ prefix_len (λ b. not (is_no_gap b)) bs
+no_gaps [] = refl
+no_gaps (b ∷ bs) = bool (λ t. cond t (1 + prefix_len is_gap bs) 0 ≡ cond (not (not t)) (1 + prefix_len (λ b. not (is_no_gap b)) bs) 0) (is_gap b) (λ e. omega (arith, no_gaps bs)) λ e. refl
 
-module _ {f : ℕ → Bool} {bs : List ℕ} {at i : ℕ} (s : Seeking f bs at i) where
-  module _ {t : Bool} (h : i < length bs) (g : t ≡ f (get_or bs i 0)) where
-    pub seek_found : t ≡ true → First f bs at i
-    seek_found e = record { first = omega (arith, s.ahead, ap length (before_here f bs i h (sym g ∙ e))); inside = s.inside }
-
-    pub seek_more : t ≡ false → Seeking f bs at (i + 1)
-    seek_more e = record { inside = omega arith; ahead = omega (arith, s.ahead, ap length (before_next f bs i h (sym g ∙ e))) }
-
-  pub seek_end : length bs ≤ i → First f bs at i
-  seek_end h = record { first = omega (arith, s.ahead, ap length (before_end f bs i h)); inside = s.inside }
-
--- one byte twice is one byte
-pub first_twice : (n : ℕ) {bs : List ℕ} {at r : ℕ} → First (λ b. eqb b n || eqb b n) bs at r → First (λ b. eqb b n) bs at r
-first_twice n {bs} {at} {r} = subst (λ (f : ℕ → Bool). First f bs at r) λ i b. twice (eqb b n) i
-  where
-    twice : (t : Bool) → (t || t) ≡ t
-    twice true = refl
-    twice false = refl
+pub first_in_word : {bs : List ℕ} {at r : ℕ} → at ≤ length bs → r ≡ prefix_len is_gap (take (length bs - at) (drop at bs)) → First is_no_gap bs at (at + r)
+first_in_word {bs} {at} h e = first_behind is_no_gap h (e ∙ no_gaps (take (length bs - at) (drop at bs)))
 
 -- the bytes before are the first ones
 pub before_take : (f : ℕ → Bool) (bs : List ℕ) → take (length (before f bs)) bs ≡ before f bs
@@ -75,6 +63,12 @@ lines_first (b ∷ d ∷ bs) h =
     bool
     (λ t. joined t b (lines (d ∷ bs)) ≡ choose t [] (b ∷ before is_end (d ∷ bs)) ∷ lines (drop (length (choose t [] (b ∷ before is_end (d ∷ bs)))) (d ∷ bs)))
     (is_end b) (λ e. refl) λ e. ap (joined false b) (lines_first (d ∷ bs) (omega arith))
+
+-- nothing has no lines
+pub no_lines : (bs : List ℕ) → length bs ≡ 0 → lines bs ≡ []
+unfolding lines
+no_lines [] h = refl
+no_lines (b ∷ bs) h = absurd (omega arith)
 
 -- a line of a text, from where it ends; behind the last byte none is left, whether it is an LF or not
 module _ {bs : List ℕ} {from e : ℕ} (h : from < length bs) (f : First is_end bs from e) where

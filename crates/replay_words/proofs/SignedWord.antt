@@ -1,59 +1,21 @@
 -- A word as a signed number. Assumes nothing.
-use Prim.Native.Nat.{ℕ, zero, suc, ◌-◌, ◌<◌}
+use Prim.Native.Nat.{ℕ, ◌<◌}
 use native.Mathlib.Omega.{arith}
-use mathlib.Core.Path.{◌≡◌, refl, sym, ap, subst, ◌∙◌}
+use mathlib.Core.Path.{◌≡◌, refl, ap, ◌∙◌}
 use mathlib.Core.Logic.{◌≢◌}
-use mathlib.Core.Bool.{Bool, true, false}
+use mathlib.Core.Bool.{true, false, ◌&&◌}
 use Rattle.std.specs.Prelude.{Option, Some, None}
 use mathlib.Core.List.{List, [], ◌∷◌}
 use lib.ListN.{length, get_or, take, drop}
-use lib.Seq.{take_all}
-use lib.IntN.{ℤ, pos, negsuc, neg_ℤ, ◌-ℤ◌, +ℤ_idl}
-use lib.Dec.{leb}
-use borrow.Author.Tests.{eq-eqb, leb-true, ne_eqb}
-use mir.Syntax.{w64}
-use mir.Val.{SFits, of_z, to_z}
-use mir.ValLaws.{to_z-of_z, to_z_pos}
+use lib.IntN.{ℤ}
+use lib.Dec.{eqb, leb}
+use lib.Pointwise.{pointwise}
+use borrow.Author.Tests.{leb-true, ne_eqb}
+use Rattle.model.proofs.ListLaws.{true_false}
 use Rattle.model.specs.Choice.{choose}
 use Rattle.replay_words.specs.Words.{all_digits, negative, number, number_from, signed, value, whole}
-use Rattle.replay_words.specs.Cursor.{Small, told}
-use Rattle.replay_words.specs.declared.Number.{Number}
-use Rattle.replay_words.specs.declared.Number.TheVariants as number
+use Rattle.replay_words.specs.Cursor.{Small}
 use Rattle.replay_words.proofs.Scan.{bool}
-
--- the number below zero of that size
-zero_minus : (n : ℕ) → pos 0 -ℤ pos n ≡ neg_ℤ (pos n)
-zero_minus zero = refl
-zero_minus (suc k) = +ℤ_idl (negsuc k)
-
-below_fits : (n : ℕ) → n < 9223372036854775808 → SFits w64 (neg_ℤ (pos n))
-below_fits zero h = record { sfits = omega arith }
-below_fits (suc k) h = record { sfits = omega arith }
-
--- the cases of a size, with its sign
-module _ {size : Number} {v : ℕ} (e : size ≡ number.Value v) (small : Small (told size)) where
-  low : v < 9223372036854775808
-  low = rw e at small
-
-  minus : pos 0 -ℤ to_z w64 v ≡ neg_ℤ (pos v)
-  minus = ap (λ (z : ℤ). pos 0 -ℤ z) (to_z_pos w64 v low) ∙ zero_minus v
-
-  pub size_fits : SFits w64 (pos v)
-  size_fits = record { sfits = low }
-
-  pub minus_fits : SFits w64 (pos 0 -ℤ to_z w64 v)
-  minus_fits = subst (SFits w64) (sym minus) (below_fits v low)
-
-  module _ {m : Bool} where
-    pub with_minus : m ≡ true → Some (to_z w64 (of_z w64 (pos 0 -ℤ to_z w64 v))) ≡ choose m (negative (told size)) (whole (told size))
-    with_minus t = rw (t, e) (ap Some (to_z-of_z w64 (pos 0 -ℤ to_z w64 v) minus_fits ∙ minus))
-
-    pub without_minus : m ≡ false → Some (to_z w64 v) ≡ choose m (negative (told size)) (whole (told size))
-    without_minus f = rw (f, e) (ap Some (to_z_pos w64 v low))
-
-pub with_none : {size : Number} (m : Bool) → size ≡ number.Not → None ≡ choose m (negative (told size)) (whole (told size))
-with_none true e = rw e refl
-with_none false e = rw e refl
 
 -- a number of a word is at most its top
 module _ (top : ℕ) (fits : top < 9223372036854775808) where
@@ -72,29 +34,23 @@ module _ (top : ℕ) (fits : top < 9223372036854775808) where
   pub small_size : (w : List ℕ) {o : Option ℕ} → o ≡ number top w → Small o
   small_size w e = rw e (number_small w)
 
--- the ways out
-module _ (top : ℕ) (w : List ℕ) where
-  pub signed_empty : length w ≡ 0 → None ≡ signed top w
+-- a word that starts with a minus, and one that does not
+module _ (top : ℕ) {o : Option ℕ} {z : Option ℤ} where
+  pub signed_minus : (w size : List ℕ) → pointwise eqb (take 1 w) (45 ∷ []) ≡ true → size ≡ drop 1 w → o ≡ number top size → z ≡ negative o → z ≡ signed top w
   unfolding signed
-  signed_empty e = go w e
-    where
-      go : (w : List ℕ) → length w ≡ 0 → None ≡ signed top w
-      go [] e = refl
-      go (b ∷ bs) e = absurd (omega arith)
+  signed_minus [] size m e f g = true_false m refl
+  signed_minus (b ∷ bs) size m e f g =
+      bool (λ t. t && true ≡ true → z ≡ choose t (negative (number top bs)) (whole (number top (b ∷ bs)))) (eqb b 45)
+      (λ _ _. g ∙ ap negative (f ∙ ap (number top) e)) (λ _ q. true_false q refl) m
 
-  module _ (some_byte : length w ≢ 0) {o : Option ℕ} {z : Option ℤ} where
-    pub signed_minus : get_or w 0 0 ≡ 45 → o ≡ number top (take (length w - 1) (drop 1 w)) → z ≡ negative o → z ≡ signed top w
-    unfolding signed
-    signed_minus m e s = s ∙ ap negative e ∙ go w some_byte m
-      where
-        go : (w : List ℕ) → length w ≢ 0 → get_or w 0 0 ≡ 45 → negative (number top (take (length w - 1) (drop 1 w))) ≡ signed top w
-        go [] ne m = absurd (ne refl)
-        go (b ∷ bs) ne m = rw (eq-eqb b 45 m, take_all (suc (length bs) - 1) bs (omega arith)) refl
+  pub signed_plain : (w : List ℕ) → pointwise eqb (take 1 w) (45 ∷ []) ≡ false → o ≡ number top w → z ≡ whole o → z ≡ signed top w
+  unfolding signed number
+  signed_plain [] m f g = g ∙ ap whole f
+  signed_plain (b ∷ bs) m f g =
+      bool (λ t. t && true ≡ false → z ≡ choose t (negative (number top bs)) (whole (number top (b ∷ bs)))) (eqb b 45)
+      (λ _ q. true_false refl q) (λ _ _. g ∙ ap whole f) m
 
-    pub signed_whole : get_or w 0 0 ≢ 45 → o ≡ number top w → z ≡ whole o → z ≡ signed top w
-    unfolding signed
-    signed_whole m e s = s ∙ ap whole e ∙ go w some_byte m
-      where
-        go : (w : List ℕ) → length w ≢ 0 → get_or w 0 0 ≢ 45 → whole (number top w) ≡ signed top w
-        go [] ne m = absurd (ne refl)
-        go (b ∷ bs) ne m = rw (ne_eqb b 45 m) refl
+-- a word with a byte in front that is no minus
+pub signed_whole : (top : ℕ) (w : List ℕ) → length w ≢ 0 → {o : Option ℕ} {z : Option ℤ} → get_or w 0 0 ≢ 45 → o ≡ number top w → z ≡ whole o → z ≡ signed top w
+signed_whole top [] ne m e f = absurd (ne refl)
+signed_whole top (b ∷ bs) ne m e f = signed_plain top (b ∷ bs) (rw (ne_eqb b 45 m) refl) e f

@@ -1,12 +1,8 @@
 -- What the code's steps along a line say of its words. Assumes nothing.
-use Rattle.std.specs.Prelude.{ℕ, ◌+◌, ◌-◌, ◌≤◌, ◌<◌, ◌≡◌, ◌≢◌, Bool, List, [], ◌∷◌, length, take, drop, ℤ, Option, Some, None}
+use Rattle.std.specs.Prelude.{ℕ, ◌+◌, ◌-◌, ◌≤◌, ◌<◌, ◌≡◌, ◌≢◌, Bool, List, [], ◌∷◌, length, take, drop, Option, Some, None}
 use Rattle.replay_words.specs.Words.{before, lines, words}
 use Rattle.replay_words.specs.declared.Piece.{Piece}
 use Rattle.replay_words.specs.declared.Word.{Word}
-use Rattle.replay_words.specs.declared.Number.{Number}
-use Rattle.replay_words.specs.declared.Number.TheVariants as number
-use Rattle.replay_words.specs.declared.Signed.{Signed}
-use Rattle.replay_words.specs.declared.Signed.TheVariants as signed
 
 -- the first position from at on whose byte passes a test, or the length
 pub record First (f : ℕ → Bool) (bs : List ℕ) (at r : ℕ) : Type 0 where
@@ -33,17 +29,7 @@ pub record NextWord (bs : List ℕ) (at : ℕ) (r : Word) : Type 0 where
   pub none_left : r.start ≡ r.end → words (drop at bs) ≡ []
   pub next_word : r.start ≢ r.end → words (drop at bs) ≡ part bs r.start r.end ∷ words (drop r.end bs)
 
--- a number as the code says it
-abbrev pub told : Number → Option ℕ
-told (number.Value v) = Some v
-told number.Not = None
-
 -- none, or a size that a signed number can have
 abbrev pub Small : Option ℕ → Type 0
 Small None = Unit {0}
 Small (Some n) = n < 9223372036854775808
-
--- a signed number as the code says it
-abbrev pub told_signed : Signed → Option ℤ
-told_signed (signed.Value z) = Some z
-told_signed signed.Not = None

@@ -1,44 +1,12 @@
 // The words and numbers of a line of the replay program. No input or output.
 #![tactic(auto)]
 
-ghost use Rattle.std.specs.Prelude.{◌≡◌, ◌<◌, ◌≤◌, length};
+ghost use Rattle.std.specs.Prelude.{not, eqb, ◌≡◌, ◌+◌, ◌<◌, ◌≤◌, length};
+ghost use Rattle.std.specs.List.{prefix_len};
+ghost use Rattle.std.specs.Iterator.{YieldsFirstRef, item_count};
 ghost use Rattle.model.specs.Choice.{choose};
-ghost use Rattle.replay_words.specs.Words.{sought, is_end, is_comment, is_gap, is_no_gap, mark_length, same, is_digit, all_digits, number, signed, whole, negative};
-ghost use Rattle.replay_words.specs.Cursor.{First, PieceAt, NextWord, Small, told, told_signed};
-
-// Whether a byte is one of two, or neither if they are not wanted.
-fn is_sought(c: u8, a: u8, b: u8, wanted: bool) -> bool
-    ensures { result ≡ sought a b wanted c }
-{
-    let found = (c == a) | (c == b);
-    if wanted {
-        return found;
-    }
-    !found
-}
-
-// The first byte at or after `at` that is sought, or the length.
-fn first(text: &[u8], at: usize, a: u8, b: u8, wanted: bool) -> usize
-    requires { at ≤ length text.now }
-    ensures { First (sought a b wanted) text.now at result }
-{
-    let mut i = at;
-    while i < text.len() {
-        if is_sought(text[i], a, b, wanted) {
-            return i;
-        }
-        i += 1;
-    }
-    i
-}
-
-// The first LF at or after `at`, or the length.
-fn line_end(text: &[u8], at: usize) -> usize
-    requires { at ≤ length text.now }
-    ensures { First is_end text.now at result }
-{
-    first(text, at, b'\n', b'\n', true)
-}
+ghost use Rattle.replay_words.specs.Words.{before, is_end, is_comment, is_gap, is_no_gap, lines, mark_length, same, all_digits, number, signed, whole, negative, words};
+ghost use Rattle.replay_words.specs.Cursor.{First, PieceAt, NextWord, Small};
 
 // Where a line ends, and where the next one starts.
 #[derive(Drop)]
@@ -47,27 +15,53 @@ pub struct Piece {
     pub next: usize,
 }
 
+// How many bytes come before the first b.
+fn count_before(text: &[u8], b: u8) -> usize
+    ensures count { result ≡ prefix_len (λ x. not (eqb x b)) text.now }
+    ensures inside { result ≤ length text.now }
+{
+    text.iter().take_while(|x| **x != b).count()
+}
+
 // The line from `from` on; its LF is not part of it.
 pub fn piece_at(text: &[u8], from: usize) -> Piece
     requires { from < length text.now }
     ensures { PieceAt text.now from result }
 {
-    let end = line_end(text, from);
+    let end = from + count_before(&text[from..], b'\n');
     if end < text.len() {
         return Piece { end, next: end + 1 };
     }
     Piece { end, next: end }
 }
 
+// The lines of a text, each without its LF.
+#[derive(Clone, Copy, Drop)]
+pub struct Lines<'a>(pub &'a [u8]);
+
+impl<'a> Iterator for Lines<'a> {
+    type Item = &'a [u8];
+
+    ghost next_gives = { YieldsFirstRef (λ s. lines s.0.now) };
+
+    ghost remaining = { item_count (λ s. lines s.0.now) };
+
+    fn next(&mut self) -> Option<&'a [u8]> {
+        let text = self.0;
+        if text.is_empty() {
+            return None;
+        }
+        let Piece { end, next } = piece_at(text, 0);
+        self.0 = &text[next..];
+        Some(&text[..end])
+    }
+}
+
 // The length of a text's byte order mark.
 pub fn mark_length(text: &[u8]) -> usize
     ensures { (result ≡ mark_length text.now) × (result ≤ length text.now) }
 {
-    if text.len() < 3 {
-        return 0;
-    }
-    let mark = [239u8, 187, 191];
-    if is_word(&text[..3], &mark) {
+    if text.starts_with(&[239, 187, 191]) {
         return 3;
     }
     0
@@ -77,23 +71,13 @@ pub fn mark_length(text: &[u8]) -> usize
 pub fn comment_start(text: &[u8]) -> usize
     ensures { First is_comment text.now 0 result }
 {
-    first(text, 0, b'#', b'#', true)
+    count_before(text, b'#')
 }
 
-// The first byte at or after `at` that is in a word, or the length.
-fn word_start(line: &[u8], at: usize) -> usize
-    requires { at ≤ length line.now }
-    ensures { First is_no_gap line.now at result }
+fn is_gap(b: u8) -> bool
+    ensures { result ≡ is_gap b }
 {
-    first(line, at, b' ', b'\t', false)
-}
-
-// The first byte at or after `at` that is in no word, or the length.
-fn word_end(line: &[u8], at: usize) -> usize
-    requires { at ≤ length line.now }
-    ensures { First is_gap line.now at result }
-{
-    first(line, at, b' ', b'\t', true)
+    b == b' ' || b == b'\t'
 }
 
 // Where a word of a line starts and ends; it is empty if there is none.
@@ -103,133 +87,108 @@ pub struct Word {
     pub end: usize,
 }
 
+// How many bytes come before the first word.
+fn word_start(line: &[u8]) -> usize
+    ensures count { result ≡ prefix_len is_gap line.now }
+    ensures inside { result ≤ length line.now }
+{
+    line.iter().take_while(|b| is_gap(**b)).count()
+}
+
+// How many bytes come before the first gap.
+fn word_end(line: &[u8]) -> usize
+    ensures count { result ≡ prefix_len is_no_gap line.now }
+    ensures inside { result ≤ length line.now }
+{
+    line.iter().take_while(|b| !is_gap(**b)).count()
+}
+
 // The next word from `at` on.
 pub fn next_word(line: &[u8], at: usize) -> Word
     requires { at ≤ length line.now }
     ensures { NextWord line.now at result }
 {
-    let start = word_start(line, at);
-    let end = word_end(line, start);
+    let start = at + word_start(&line[at..]);
+    let end = start + word_end(&line[start..]);
     Word { start, end }
+}
+
+// The words of a line.
+#[derive(Clone, Copy, Drop)]
+pub struct Words<'a>(pub &'a [u8]);
+
+impl<'a> Iterator for Words<'a> {
+    type Item = &'a [u8];
+
+    ghost next_gives = { YieldsFirstRef (λ s. words s.0.now) };
+
+    ghost remaining = { item_count (λ s. words s.0.now) };
+
+    fn next(&mut self) -> Option<&'a [u8]> {
+        let line = self.0;
+        let Word { start, end } = next_word(line, 0);
+        if start == end {
+            return None;
+        }
+        self.0 = &line[end..];
+        Some(&line[start..end])
+    }
 }
 
 // Whether a word is a name.
 pub fn is_word(word: &[u8], name: &[u8]) -> bool
     ensures { result ≡ same word.now name.now }
 {
-    if word.len() != name.len() {
-        return false;
-    }
-    let mut i: usize = 0;
-    while i < name.len() {
-        if word[i] != name[i] {
-            return false;
-        }
-        i += 1;
-    }
-    true
-}
-
-fn is_digit(b: u8) -> bool
-    ensures { result ≡ is_digit b }
-{
-    (b'0' <= b) & (b <= b'9')
+    word == name
 }
 
 // Whether a word has digits only.
 pub fn all_digits(word: &[u8]) -> bool
     ensures { result ≡ all_digits word.now }
 {
-    let mut i: usize = 0;
-    while i < word.len() {
-        if !is_digit(word[i]) {
-            return false;
-        }
-        i += 1;
-    }
-    true
+    word.iter().all(|b| b.is_ascii_digit())
 }
 
-// What a word says, if it is a number.
-#[derive(Drop)]
-pub enum Number {
-    Value(u64),
-    Not,
-}
-
-fn wide(b: u8) -> u64
-    ensures { result ≡ b }
+// The number of a word of decimal digits, if it is at most `top`.
+pub fn number_of(word: &[u8], top: u64) -> Option<u64>
+    ensures { result ≡ number top word.now }
 {
-    b as u64
-}
-
-// The number of a word of decimal digits, if it is at most `top`: tested digit by digit, so that no product wraps.
-pub fn number_of(word: &[u8], top: u64) -> Number
-    ensures { told result ≡ number top word.now }
-{
-    if word.len() == 0 {
-        return Number::Not;
+    if word.is_empty() {
+        return None;
     }
     let mut v: u64 = 0;
-    let mut i: usize = 0;
-    while i < word.len() {
-        let b = word[i];
-        if b < b'0' {
-            return Number::Not;
+    for b in word {
+        if !b.is_ascii_digit() {
+            return None;
         }
-        if b'9' < b {
-            return Number::Not;
+        let d = u64::from(*b - b'0');
+        v = v.checked_mul(10)?.checked_add(d)?;
+        if top < v {
+            return None;
         }
-        let d = wide(b - b'0');
-        if top / 10 < v {
-            return Number::Not;
-        }
-        if top - v * 10 < d {
-            return Number::Not;
-        }
-        v = v * 10 + d;
-        i += 1;
     }
-    Number::Value(v)
-}
-
-// What a word says, if it is a signed number.
-#[derive(Drop)]
-pub enum Signed {
-    Value(i64),
-    Not,
+    Some(v)
 }
 
 // A number of that size, below zero if there was a minus.
-fn with_sign(size: Number, minus: bool) -> Signed
-    requires { Small (told size) }
-    ensures { told_signed result ≡ choose minus (negative (told size)) (whole (told size)) }
+fn with_sign(size: Option<u64>, minus: bool) -> Option<i64>
+    requires { Small size }
+    ensures { result ≡ choose minus (negative size) (whole size) }
 {
-    match size {
-        Number::Value(v) => {
-            let n = v as i64;
-            if minus {
-                let z = 0 - n;
-                return Signed::Value(z);
-            }
-            Signed::Value(n)
-        }
-        Number::Not => Signed::Not,
+    let z = size? as i64;
+    if minus {
+        return Some(-z);
     }
+    Some(z)
 }
 
 // The number of a word of decimal digits, with a minus before a negative one, if its size is at most `top`, which fits the type.
-pub fn signed_of(word: &[u8], top: u64) -> Signed
+pub fn signed_of(word: &[u8], top: u64) -> Option<i64>
     requires { top < 9223372036854775808 }
-    ensures { told_signed result ≡ signed top word.now }
+    ensures { result ≡ signed top word.now }
 {
-    if word.len() == 0 {
-        return Signed::Not;
+    match word.strip_prefix(b"-") {
+        Some(size) => with_sign(number_of(size, top), true),
+        None => with_sign(number_of(word, top), false),
     }
-    if word[0] == b'-' {
-        let size = number_of(&word[1..], top);
-        return with_sign(size, true);
-    }
-    let size = number_of(word, top);
-    with_sign(size, false)
 }

@@ -1,15 +1,12 @@
--- `replay_words::all_digits` meets its contract: digits up to here. Assumes nothing.
-use Rattle.replay_words.proofs.OneWord.{digits_first, digits_not, digits_more, digits_end}
+-- `replay_words::all_digits` meets its contract. Assumes nothing.
+use Rattle.std.proofs.Common.{◌∙◌, rules, tests}
+use Rattle.std.proofs.lemmas.Iterator.{YieldsList-from_slice}
+use Rattle.std.proofs.lemmas.Iterator.Search.{all_from_yields_List}
+use Rattle.replay_words.specs.Words.{is_digit}
+use Rattle.replay_words.proofs.OneWord.{digits_all}
 use Rattle.replay_words.proofs.all_digits.Goals as goal
 
-pub loop-i-init : goal.loop-i-init
-loop-i-init c = search digits_first
-
-pub returns-then-not-is_digit : goal.returns-then-not-is_digit
-returns-then-not-is_digit c = search digits_not
-
-pub loop-i-preserved : goal.loop-i-preserved
-loop-i-preserved c = search digits_more
-
 pub returns : goal.returns
-returns c = search digits_end
+returns c =
+    all_from_yields_List is_digit _ _ c.all.result c.all.ensures.ran (YieldsList-from_slice c.args.word.now cc) (λ x b q k. search (rules, tests))
+    ∙ digits_all c.args.word.now

@@ -1,18 +1,7 @@
--- `replay_words::is_word` meets its contract: the words agree up to here. Assumes nothing.
-use Rattle.replay_words.proofs.OneWord.{differ_long, same_first, same_differ, same_more, same_end}
+-- `replay_words::is_word` meets its contract. Assumes nothing.
+use Rattle.std.proofs.Common.{◌∙◌}
+use Rattle.replay_words.proofs.OneWord.{same_bytes}
 use Rattle.replay_words.proofs.is_word.Goals as goal
 
-pub returns-then-word-name : goal.returns-then-word-name
-returns-then-word-name c = search differ_long
-
-pub loop-i-init : goal.loop-i-init
-loop-i-init c = search same_first
-
-pub returns-then-word-i : goal.returns-then-word-i
-returns-then-word-i c = search same_differ
-
-pub loop-i-preserved : goal.loop-i-preserved
-loop-i-preserved c = search same_more
-
 pub returns : goal.returns
-returns c = search same_end
+returns c = c.eq.ensures ∙ same_bytes c.args.word.now c.args.name.now

@@ -1,27 +1,38 @@
 -- `replay_words::number_of` meets its contract: what is still to be read from here comes to the number. Assumes nothing.
-use Rattle.replay_words.proofs.OneWord.{read_none, read_first, read_low, read_high, read_over, read_past, read_more, read_end}
+use Rattle.std.proofs.Common.{◌∙◌, arith}
+use borrow.Author.Tests.{true-eqb, false-eqb}
+use Rattle.replay_words.proofs.OneWord.{read_none, read_first, read_other, read_over, read_more, read_end}
 use Rattle.replay_words.proofs.number_of.Goals as goal
 
-pub returns-then-word-eq0 : goal.returns-then-word-eq0
-returns-then-word-eq0 c = search read_none
+pub returns-then-is_empty : goal.returns-then-is_empty
+returns-then-is_empty c = read_none c.args.top c.args.word.now (true-eqb _ _ c.if-is_empty.ensures)
 
-pub loop-i-init : goal.loop-i-init
-loop-i-init c = search read_first
+pub loop-b-init : goal.loop-b-init
+loop-b-init c = read_first c.args.top c.args.word.now (false-eqb _ _ c.if-is_empty.ensures)
 
-pub returns-then-b-lt48 : goal.returns-then-b-lt48
-returns-then-b-lt48 c = search read_low
+pub returns-then-not-is_ascii_digit : goal.returns-then-not-is_ascii_digit
+returns-then-not-is_ascii_digit c = read_other c.loop-b.invariant c.loop-b-test.true c.if-not-is_ascii_digit.ensures.value
 
-pub returns-then-b-gt57 : goal.returns-then-b-gt57
-returns-then-b-gt57 c = search read_high
+pub returns-in_err-checked_mul : goal.returns-in_err-checked_mul
+returns-in_err-checked_mul c =
+    c.from_residual.ensures
+    ∙ read_over c.loop-b.invariant c.loop-b-test.true c.if-not-is_ascii_digit.ensures.value (omega (arith, c.in_err-checked_mul.ensures))
+
+pub returns-in_err-v : goal.returns-in_err-v
+returns-in_err-v c =
+    c.from_residual-in_err-v.ensures
+    ∙ read_over c.loop-b.invariant c.loop-b-test.true c.if-not-is_ascii_digit.ensures.value
+    (omega (arith, c.in_ok-checked_mul.ensures, c.from-d.ensures, c.in_err-v.ensures))
 
 pub returns-then-top-v : goal.returns-then-top-v
-returns-then-top-v c = search read_over
+returns-then-top-v c =
+    read_over c.loop-b.invariant c.loop-b-test.true c.if-not-is_ascii_digit.ensures.value
+    (omega (arith, c.in_ok-checked_mul.ensures, c.from-d.ensures, c.in_ok-v.ensures))
 
-pub returns-then-top-v-2 : goal.returns-then-top-v-2
-returns-then-top-v-2 c = search read_past
-
-pub loop-i-preserved : goal.loop-i-preserved
-loop-i-preserved c = search read_more
+pub loop-b-preserved : goal.loop-b-preserved
+loop-b-preserved c =
+    read_more c.loop-b.invariant c.loop-b-test.true c.if-not-is_ascii_digit.ensures.value
+    (omega (arith, c.in_ok-checked_mul.ensures, c.from-d.ensures, c.in_ok-v.ensures)) c.if-top-v.false
 
 pub returns : goal.returns
-returns c = search read_end
+returns c = read_end c.loop-b.invariant c.loop-b-test.false
