@@ -1,14 +1,16 @@
 -- Laws that the proofs of the list's functions cite. Assumes nothing.
+use Rattle.std.specs.Prelude.{Result, Ok, Err}
 use Prim.Native.Nat.{ℕ, ◌+◌, ◌*◌, ◌^◌, ◌<◌, suc, ◌≤◌, ◌-◌, ◌%◌, ◌/◌, zero}
-use native.Mathlib.Nat.{zero-add, sub-zero}
+use native.Mathlib.Nat.{zero-add}
 use native.Mathlib.Numerals.{add-one}
 use native.Mathlib.Omega.{arith}
 use mathlib.Core.Path.{◌≡◌, refl, sym, ap, ap₂, ◌∙◌}
-use mathlib.Core.Bool.{Bool, true, false, not}
+use mathlib.Core.Bool.{Bool, true, false, not, cond}
 use mathlib.Core.List.{List, [], ◌∷◌, ◌++◌}
 use lib.ListN.{length, length-append, take, drop}
 use lib.Seq.{sets, sets-eq, take_at}
-use borrow.Author.Tests.{lt-ltb, le-ltb, eq-eqb, ne_eqb, not-true, not-false}
+use borrow.Author.Tests.{lt-ltb, le-ltb, eq-eqb, ne_eqb, not-false}
+use Rattle.std.specs.List.{filter, range_with_len}
 use Rattle.model.specs.Choice.{choose, range}
 use Rattle.model.specs.Memory.{Mem, animal, live, mem, permission, stamp}
 use Rattle.model.specs.Hash.{bytes}
@@ -17,8 +19,8 @@ use Rattle.model.specs.Answers.{Answer, listed, refused}
 use Rattle.model.specs.Listing.{list_record, listing, live_count, records}
 use Rattle.model.specs.Calls.{refuse, tell}
 use Rattle.model.specs.Said.{listed_into, said_listing}
-use Rattle.model.specs.declared.Listing.{Listing}
-use Rattle.model.specs.declared.Listing.TheVariants.{Listed, Refused}
+use Rattle.model.specs.declared.Refusal.{Refusal}
+use Rattle.model.specs.declared.Refusal.TheVariants as refusal
 use Rattle.model.proofs.ListLaws.{bool}
 use Rattle.model.proofs.Lent.{fit}
 use Rattle.buffer.specs.Put.{Put}
@@ -49,13 +51,6 @@ pub vacant_record : (l : List ℕ) (p : ℕ) → animal l p ≡ 0 → place_reco
 unfolding place_record
 vacant_record l p h = rw (eq-eqb (animal l p) 0 h)
 
--- and so it counts 1, or nothing
-pub live_one : (l : List ℕ) (p : ℕ) → (animal l p ≡ 0 → ⊥) → ◌≡◌ {A = ℕ} 1 (choose (live l p) 1 0)
-live_one l p h = rw (ne_eqb (animal l p) 0 h)
-
-pub vacant_none : (l : List ℕ) (p : ℕ) → animal l p ≡ 0 → ◌≡◌ {A = ℕ} 0 (choose (live l p) 1 0)
-vacant_none l p h = rw (eq-eqb (animal l p) 0 h)
-
 -- the places from p on: p, and those from p + 1 on
 pub places_from : (m p : ℕ) → p < m → range p (m - p) ≡ p ∷ range (p + 1) (m - (p + 1))
 unfolding range
@@ -65,30 +60,16 @@ pub no_places : (m p : ℕ) → m ≤ p → range p (m - p) ≡ []
 unfolding range
 no_places m p h = let e : m - p ≡ 0 = omega arith in rw e
 
--- the count, place after place: the live places passed and those ahead are all of them
-pub record Counting (l : List ℕ) (m n p : ℕ) : Type 0 where
-  pub within : p ≤ m
-  pub few : n ≤ p
-  pub ahead : n + live_count l (range p (m - p)) ≡ live_count l (range 0 m)
-
-pub count_first : (l : List ℕ) (m : ℕ) → Counting l m 0 0
-count_first l m = record { within = omega arith; few = omega arith; ahead = rw (zero-add, sub-zero) }
-
-module _ {l : List ℕ} {m n p : ℕ} (i : Counting l m n p) where
-  pub count_few : {k : ℕ} → k ≡ choose (live l p) 1 0 → n + k ≤ p + 1
-  count_few {k} e =
-      let h : k ≤ 1 = rw e (bool (λ b. choose b 1 0 ≤ 1) (live l p) (λ t. omega arith) λ f. omega arith) in
-      omega (arith, i.few)
-
-  pub count_more : {k : ℕ} → p < m → k ≡ choose (live l p) 1 0 → Counting l m (n + k) (p + 1)
-  unfolding live_count
-  count_more {k} h e =
-      let s : live_count l (range p (m - p)) ≡ k + live_count l (range (p + 1) (m - (p + 1))) = rw (places_from m p h, e) in
-      record { within = omega arith; few = count_few e; ahead = omega (arith, i.ahead) }
-
-  pub count_done : m ≤ p → n ≡ live_count l (range 0 m)
-  unfolding live_count
-  count_done h = let s : live_count l (range p (m - p)) ≡ 0 = rw (no_places m p h) in omega (arith, i.ahead)
+-- the live places, as the library counts them
+pub counted : (l : List ℕ) (p n : ℕ) → length (filter (live l) (range_with_len p n)) ≡ live_count l (range p n)
+unfolding live_count range
+counted l p zero = refl
+counted l p (suc n) =
+    let more : List ℕ = filter (live l) (range_with_len (p + 1) n) in
+    let e : length more ≡ live_count l (range (suc p) n) = counted l (p + 1) n ∙ ap (λ k. live_count l (range k n)) (add-one p) in
+    bool (λ b. length (cond b (p ∷ more) more) ≡ choose b 1 0 + live_count l (range (suc p) n)) (live l p)
+    (λ t. omega (arith, e))
+    λ f. omega (arith, e)
 
 -- at most one a place
 pub count_most : (l : List ℕ) (n p : ℕ) → live_count l (range p n) ≤ n
@@ -130,9 +111,6 @@ pub record Putting (l : List ℕ) (m : ℕ) (before buffer : List ℕ) (at p : �
   pub room : at + length (records l (range p (m - p))) ≤ length buffer
   pub rest : sets buffer at (records l (range p (m - p))) ≡ sets before 0 (records l (range 0 m))
 
-pub putting_first : {l : List ℕ} {m : ℕ} {b : List ℕ} → length (records l (range 0 m)) ≤ length b → Putting l m b b 0 0
-putting_first h = record { within = omega arith; same = refl; room = rw sub-zero (omega arith); rest = rw sub-zero }
-
 records_from : (l : List ℕ) (m p : ℕ) → p < m → records l (range p (m - p)) ≡ place_record l p ++ records l (range (p + 1) (m - (p + 1)))
 unfolding records place_record
 records_from l m p h = rw (places_from m p h)
@@ -165,7 +143,7 @@ module _ (W : Ways) (m : Mem) (b : List ℕ) where
       → list_answer W m b ≡ (choose g (tell (listing m.items (length m.items / 4) (length b))) (refuse 1)).answer
   answer_is w = ap (λ (g : Bool). (choose g (tell (listing m.items (length m.items / 4) (length b))) (refuse 1)).answer) w
 
-  listed_as : {a : Answer} {b' : List ℕ} {r : Listing} → list_answer W m b ≡ a → said_listing r b' ≡ a → b' ≡ listed_into a b → ListedAs W m b b' r
+  listed_as : {a : Answer} {b' : List ℕ} {r : Result ℕ Refusal} → list_answer W m b ≡ a → said_listing r b' ≡ a → b' ≡ listed_into a b → ListedAs W m b b' r
   listed_as e f g = record { told = f ∙ sym e; left = g ∙ ap (λ (a : Answer). listed_into a b) (sym e) }
 
 listing_short : (l : List ℕ) (M size : ℕ) → size < 20 * live_count l (range 0 M) → listing l M size ≡ refused 9
@@ -179,9 +157,6 @@ listing_whole l M size h = rw (le-ltb size (20 * live_count l (range 0 M)) h)
 
 -- the list itself, by the ways through the code
 module _ (W : Ways) (s v l b : List ℕ) {good : Bool} (e : good ≡ good_lengths W (length s) (length v) (length l)) where
-  pub list_wrong : not good ≡ true → ListedAs W (mem s v l) b b (Refused 1)
-  list_wrong t = listed_as W (mem s v l) b (answer_is W (mem s v l) b (sym e ∙ not-true good t)) refl refl
-
   module _ (t : not good ≡ false) where
     right : right_lengths W (mem s v l) ≡ true
     right = sym e ∙ not-false good t
@@ -193,7 +168,7 @@ module _ (W : Ways) (s v l b : List ℕ) {good : Bool} (e : good ≡ good_length
       pub list_few : n ≤ 4096
       list_few = omega (arith, c, count_most l M 0, (fit W (mem s v l) right).few)
 
-      pub list_short : length b < 20 * n → ListedAs W (mem s v l) b b (Refused 9)
+      pub list_short : length b < 20 * n → ListedAs W (mem s v l) b b (Err refusal.ShortBuffer)
       list_short h =
           listed_as W (mem s v l) b (answer_is W (mem s v l) b right ∙ listing_short l M (length b) (omega (arith, c))) refl refl
 
@@ -202,7 +177,7 @@ module _ (W : Ways) (s v l b : List ℕ) {good : Bool} (e : good ≡ good_length
         list_room = omega (arith, c, records_length l (range 0 M))
 
         pub list_written : {b' : List ℕ} → b' ≡ records l (range 0 M) ++ drop (length (records l (range 0 M))) b
-            → ListedAs W (mem s v l) b b' (Listed n)
+            → ListedAs W (mem s v l) b b' (Ok n)
         list_written {b'} f =
             let front : take (20 * n) b' ≡ records l (range 0 M) =
             ap (take (20 * n)) f

@@ -1,37 +1,21 @@
-// The list: the live places in place order, 20 bytes each.
+// The list: the live places in place order, 20 bytes each. The buffer and the position in it stay two parameters: see the crate buffer.
 #![tactic(auto)]
 
-ghost use Rattle.std.specs.Prelude.{◌≡◌, ◌++◌, ◌+◌, ◌*◌, ◌<◌, ◌≤◌, length, drop};
-ghost use Rattle.model.specs.Choice.{choose, range};
-ghost use Rattle.model.specs.Memory.{mem, live};
+ghost use Rattle.std.specs.Prelude.{◌≡◌, ◌++◌, ◌+◌, ◌*◌, ◌/◌, ◌<◌, ◌≤◌, length, drop};
+ghost use Rattle.model.specs.Choice.{range};
 ghost use Rattle.model.specs.Listing.{live_count, records};
 ghost use Rattle.model.specs.Shape.{four};
+ghost use Rattle.model.specs.Seen.{seen};
 ghost use Rattle.buffer.specs.Put.{Put};
 ghost use Rattle.listing.specs.List.{ListedAs, place_record};
 
-// 1 for a live place, 0 for a vacant one.
-fn one_if_live(items: &[u64], p: usize) -> usize
-    requires { 4 * p < length items.now }
-    ensures { result ≡ choose (live items.now p) 1 0 }
-{
-    if items[4 * p] == 0 {
-        return 0;
-    }
-    1
-}
+use model::{Refusal, Table};
 
-// How many of the first m places are live.
-fn count_live(items: &[u64], m: usize) -> usize
-    requires { 4 * m ≤ length items.now }
-    ensures { result ≡ live_count items.now (range 0 m) }
+// How many places are live.
+fn count_live(items: &[u64]) -> usize
+    ensures { result ≡ live_count items.now (range 0 (length items.now / 4)) }
 {
-    let mut n: usize = 0;
-    let mut p: usize = 0;
-    while p < m {
-        n += one_if_live(items, p);
-        p += 1;
-    }
-    n
+    (0..items.len() / 4).filter(|&p| items[4 * p] != 0).count()
 }
 
 // The record of a live place from `at` on, and nothing for a vacant one; the position behind it.
@@ -51,32 +35,29 @@ fn put_place(items: &[u64], p: usize, buffer: &mut [u8], at: usize) -> usize
     buffer::put_low::<8>(buffer, behind_permission, stamp)
 }
 
-// The records of the live ones among the first m places, at the buffer's front.
-fn put_places(items: &[u64], m: usize, buffer: &mut [u8])
-    requires { (4 * m ≤ length items.now) × (length (records items.now (range 0 m)) ≤ length buffer.old) }
-    ensures { buffer.new ≡ records items.now (range 0 m) ++ drop (length (records items.now (range 0 m))) buffer.old }
+// The records of the live places, at the buffer's front.
+fn put_places(items: &[u64], buffer: &mut [u8])
+    requires { length (records items.now (range 0 (length items.now / 4))) ≤ length buffer.old }
+    ensures { buffer.new ≡ records items.now (range 0 (length items.now / 4))
+        ++ drop (length (records items.now (range 0 (length items.now / 4)))) buffer.old }
 {
-    let mut at: usize = 0;
-    let mut p: usize = 0;
-    while p < m {
+    let mut at = 0;
+    for p in 0..items.len() / 4 {
         at = put_place(items, p, buffer, at);
-        p += 1;
     }
 }
 
 // The list: refusal 1 for lengths that are no table's, 9 for a buffer that is too short; else how many records it wrote.
-pub fn list(slots: &[u32], counters: &[u32], items: &[u64], buffer: &mut [u8]) -> model::Listing
-    ensures { ListedAs four (mem slots.now counters.now items.now) buffer.old buffer.new result }
+pub fn list(table: &Table, buffer: &mut [u8]) -> Result<usize, Refusal>
+    ensures { ListedAs four (seen table.now) buffer.old buffer.new result }
 {
-    let are_good = hashing::lengths_are_good(slots.len(), counters.len(), items.len());
-    if !are_good {
-        return model::Listing::Refused(1);
+    if !hashing::lengths_are_good(table.slots.len(), table.counters.len(), table.items.len()) {
+        return Err(Refusal::Lengths);
     }
-    let m = items.len() / 4;
-    let n = count_live(items, m);
+    let n = count_live(table.items);
     if buffer.len() < 20 * n {
-        return model::Listing::Refused(9);
+        return Err(Refusal::ShortBuffer);
     }
-    put_places(items, m, buffer);
-    model::Listing::Listed(n)
+    put_places(table.items, buffer);
+    Ok(n)
 }

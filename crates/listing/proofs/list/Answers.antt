@@ -1,12 +1,8 @@
 -- `listing::list` meets its contract: each way through the code is one of the list's answers. Assumes nothing.
 use Prim.Native.Nat.{◌≤◌}
 use native.Mathlib.Omega.{arith}
-use Rattle.listing.proofs.Laws.{list_wrong, list_few, list_short, list_room, list_written}
-use borrow.Author.Rules.{rules}
+use Rattle.listing.proofs.Laws.{list_few, list_short, list_room, list_written}
 use Rattle.listing.proofs.list.Goals as goal
-
-pub returns-then-not-are_good : goal.returns-then-not-are_good
-returns-then-not-are_good c = search list_wrong
 
 pub overflow_mul-n : goal.overflow_mul-n
 overflow_mul-n c =
@@ -17,7 +13,7 @@ pub returns-then-buffer-n : goal.returns-then-buffer-n
 returns-then-buffer-n c = search list_short
 
 pub put_places-requires : goal.put_places-requires
-put_places-requires c = (search rules, search list_room)
+put_places-requires c = search list_room
 
 pub returns : goal.returns
 returns c = search list_written
