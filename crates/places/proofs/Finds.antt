@@ -12,12 +12,15 @@ use denote.Param.Members.{Mut}
 use Rattle.std.specs.Prelude.{Option, Some, None}
 use Rattle.std.specs.Bool.{⊤}
 use Rattle.std.specs.Option.{MatchOption}
-use Rattle.std.specs.Fn.{CalledAt}
+use Rattle.std.specs.Fn.{Called, CalledAt}
 use Rattle.std.specs.Iterator.{YieldsThen}
 use Rattle.std.specs.List.{FoldsTo, position, position_or_len}
 use Rattle.std.specs.declared.ops.Range.{Range}
-use Rattle.std.proofs.iter.Yields.{nat_range_steps}
-use Rattle.std.proofs.lemmas.Iterator.{first_from_Range}
+use Rattle.std.specs.Slice.Iter.{iter_rest}
+use Rattle.std.proofs.Common.{Iter}
+use Rattle.std.proofs.iter.Yields.{fronts, nat_range_steps}
+use Rattle.std.proofs.lemmas.Iterator.{first_from_Range, YieldsList-from_slice}
+use Rattle.std.proofs.lemmas.Iterator.Search.{position_from_yields_List}
 use Rattle.std.proofs.lemmas.List.Sums.{fails_before_first}
 use Rattle.std.proofs.lemmas.List.Quantifiers.{position-Some}
 use borrow.Author.Tests.{lt-ltb}
@@ -51,15 +54,20 @@ module _ (f : ℕ → Bool) where
       go None h = none_first a n (λ k l l'. h k (omega arith) (omega arith))
       go (Some i) h = lowest_first a n i (omega (arith, h.0)) (omega (arith, h.1)) h.2 (λ k l l'. h.3 k (omega arith) l')
 
--- `position` over a run of numbers, by what it says of the test
-pub by_position : (t : ℕ → Bool) (xs : List ℕ) {r : Option ℕ} → r ≡ position t xs → r ≡ first (λ i. t (get_or xs i 0)) (range 0 (length xs))
-by_position t xs e = e ∙ go (position t xs) refl
+-- `position` over a run, whose closure makes the test
+pub by_position : {X F : Type 0} {g : Mut F (Bor X × Unit {0}) Bool} (t : X → Bool) (xs : List X) (d : X) (s u : Iter X) (c : F) {r : Option ℕ}
+    → (ys : List (Bor X)) × (o : Option (Bor X)) × (j : F) × YieldsThen fronts s ys o u × FoldsTo (λ p x q. Called g p (x, tt) false q) c ys j
+    × MatchOption o (r ≡ None) (λ x. (r ≡ Some (length ys)) × ((h : F) × Called g j (x, tt) true h))
+    → iter_rest s ≡ xs → ((x : Bor X) (b : Bool) (q : F) → Called g c (x, tt) b q → (q ≡ c) × (b ≡ t x.now))
+    → r ≡ first (λ i. t (get_or xs i d)) (range 0 (length xs))
+by_position t xs d s u c {r} ran e calls =
+    position_from_yields_List t u c r ran (YieldsList-from_slice xs e) calls ∙ go (position t xs) refl
   where
     f : ℕ → Bool
-    f i = t (get_or xs i 0)
+    f i = t (get_or xs i d)
 
     go : (o : Option ℕ) → position t xs ≡ o → o ≡ first f (range 0 (length xs))
-    go (Some i) q = let h = position-Some t xs i 0 q in lowest_first f 0 (length xs) i (omega arith) (omega (arith, h.0)) h.1 (λ k l. h.2 k)
+    go (Some i) q = let h = position-Some t xs i d q in lowest_first f 0 (length xs) i (omega arith) (omega (arith, h.0)) h.1 (λ k l. h.2 k)
     go None q =
-        none_first f 0 (length xs) λ k l l'. fails_before_first t xs k 0 (dite (dec_lt (position_or_len t xs) (length xs))
+        none_first f 0 (length xs) λ k l l'. fails_before_first t xs k d (dite (dec_lt (position_or_len t xs) (length xs))
         (λ h. let z : ◌≡◌ {A = Option ℕ} (Some (position_or_len t xs)) None = rw (lt-ltb (position_or_len t xs) (length xs) h) at q in cc) (λ h. omega arith))

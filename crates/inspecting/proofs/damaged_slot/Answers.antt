@@ -1,15 +1,8 @@
 -- `inspecting::damaged_slot` meets its contract. Assumes nothing.
-use Rattle.judgement.proofs.Walk.{passed_none, by_broken, by_whole, by_end}
+use Rattle.model.specs.Memory.{damaged}
+use borrow.Author.Rules.{rules}
+use Rattle.places.proofs.Finds.{by_position}
 use Rattle.inspecting.proofs.damaged_slot.Goals as goal
 
-pub loop-i-init : goal.loop-i-init
-loop-i-init c = search passed_none
-
-pub returns-then-is_damaged : goal.returns-then-is_damaged
-returns-then-is_damaged c = search by_broken
-
-pub loop-i-preserved : goal.loop-i-preserved
-loop-i-preserved c = search by_whole
-
 pub returns : goal.returns
-returns c = search by_end
+returns c = by_position (damaged c.args.m) _ 0 _ _ _ c.position.ensures.ran (search rules) (λ x b q k. search rules)
