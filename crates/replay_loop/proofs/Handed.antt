@@ -1,18 +1,18 @@
 -- Portion by portion: what has gone out and what is still to come are the answers. Assumes nothing.
+use Rattle.std.specs.Prelude.{Ok}
 use Prim.Native.Nat.{ℕ, ◌+◌, ◌*◌, ◌≤◌}
 use native.Mathlib.Omega.{arith}
 use mathlib.Core.Path.{◌≡◌, refl, sym, ap, ◌∙◌}
-use mathlib.Core.Bool.{Bool, true, false}
+use mathlib.Core.Bool.{Bool}
 use mathlib.Core.List.{List, [], ◌++◌, append_assoc, append-nil}
 use lib.ListN.{length, take, drop, drop_of_length-le, length-append}
 use lib.Seq.{take_at, drop_at, length-take-le}
-use Rattle.model.specs.Choice.{choose}
 use Rattle.replay_words.specs.Words.{lines, mark_length, without_mark}
 use Rattle.replay_rows.specs.World.{longest_line}
 use Rattle.replay_rows.specs.Replayed.{answers, missed, missed_in, replayed}
 use Rattle.replay_steps.specs.Standing.{in_use, Held}
 use Rattle.replay_steps.specs.declared.State.{State}
-use Rattle.replay_loop.specs.Going.{coming, to_miss, Ended, Next, Went}
+use Rattle.replay_loop.specs.Going.{coming, to_miss, Ended, Went}
 use Rattle.replay_loop.specs.declared.Replayed.{Replayed}
 
 pub record Handed (e : Bool) (calls slots counters items records out : List ℕ) (st : State) (written : ℕ) : Type 0 where
@@ -70,9 +70,6 @@ module _ {e : Bool} {calls slots counters items records out slots' counters' ite
   next_few : length calls ≤ 2097152 → written + length (take full.at out') ≤ 618475290624
   next_few l = omega (arith, length-take-le full.at out' w.fits, w.few, h.few, h.empty, w.counted, w.inside)
 
-  pub next_portion : length calls ≤ 2097152 → Next e calls written (take full.at out')
-  next_portion l = record { bytes = next_bytes; few = next_few l }
-
   -- it is handed over, and the next begins
   pub handed_more : {r : ℕ} {records' : List ℕ} → length records' ≡ length records → r ≡ written + length (take full.at out')
       → Handed e calls slots' counters' items' records' out'
@@ -110,20 +107,15 @@ module _ {e : Bool} {calls slots counters items records out slots' counters' ite
       }
 
 -- the text is at its end: all has gone out
-pub handed_all : {e : Bool} {calls slots counters items records out : List ℕ} {st : State} {written : ℕ} {r : Replayed}
-    → Handed e calls slots counters items records out st written → length calls ≤ st.from → r.bytes ≡ written → r.missed ≡ st.missed → Ended e calls r
+pub handed_all : {E : Type 0} {e : Bool} {calls slots counters items records out : List ℕ} {st : State} {written : ℕ} {done : Replayed}
+    → Handed e calls slots counters items records out st written → length calls ≤ st.from → done.bytes ≡ written → done.missed ≡ st.missed
+    → Ended {E = E} e calls (Ok done)
 unfolding replayed missed_in lines
 handed_all {e} {calls} {slots} {counters} {items} {records} {out} {st} h l b m =
     let none : coming e calls slots counters items st ≡ [] =
     ap (λ (l : List ℕ). replayed e st.number (in_use slots counters items st) (lines l)) (drop_of_length-le calls l) in
     let no_more : to_miss calls st ≡ 0 = ap (λ (l : List ℕ). missed_in (lines l)) (drop_of_length-le calls l) in
     record {
-      all = λ _. b ∙ h.count ∙ ap length (sym (append-nil h.gone) ∙ ap (λ (l : List ℕ). h.gone ++ l) (sym none) ∙ h.ahead);
-      counted = λ _. omega (arith, m, h.to_come, no_more);
+      all = b ∙ h.count ∙ ap length (sym (append-nil h.gone) ∙ ap (λ (l : List ℕ). h.gone ++ l) (sym none) ∙ h.ahead);
+      counted = omega (arith, m, h.to_come, no_more);
     }
-
--- a portion could not be written
-pub handed_in_part : {e : Bool} {calls : List ℕ} {r : Replayed} → r.whole ≡ false → Ended e calls r
-handed_in_part {e} {calls} {r} f =
-    let never : r.whole ≡ true → ◌≡◌ {A = ℕ} 0 1 = λ q. ap (λ (b : Bool). choose b 1 0) (sym f ∙ q) in
-    record { all = λ q. absurd (omega (arith, never q)); counted = λ q. absurd (omega (arith, never q)) }

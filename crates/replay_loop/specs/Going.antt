@@ -1,5 +1,5 @@
 -- Line after line, and portion after portion. Assumes nothing.
-use Rattle.std.specs.Prelude.{ℕ, ◌+◌, ◌*◌, ◌≤◌, ◌≡◌, Bool, true, List, ◌++◌, length, take, drop}
+use Rattle.std.specs.Prelude.{ℕ, ◌+◌, ◌*◌, ◌≤◌, ◌≡◌, Bool, List, ◌++◌, length, take, drop, Result, IfOk}
 use Rattle.replay_words.specs.Words.{lines}
 use Rattle.replay_rows.specs.World.{longest_line}
 use Rattle.replay_rows.specs.Replayed.{answers, missed, missed_in, replayed}
@@ -35,6 +35,6 @@ pub record Next (e : Bool) (calls : List ℕ) (written : ℕ) (portion : List �
   pub few : written + length portion ≤ 618475290624
 
 -- the replay is at its end: if every portion could be written, as many bytes were handed over as the answers have, and the lines that were not understood are counted
-pub record Ended (e : Bool) (calls : List ℕ) (r : Replayed) : Type 0 where
-  pub all : r.whole ≡ true → r.bytes ≡ length (answers e calls)
-  pub counted : r.whole ≡ true → r.missed ≡ missed calls
+pub record Ended {E : Type 0} (e : Bool) (calls : List ℕ) (r : Result Replayed E) : Type 0 where
+  pub all : IfOk r (λ done. done.bytes ≡ length (answers e calls))
+  pub counted : IfOk r (λ done. done.missed ≡ missed calls)

@@ -1,7 +1,7 @@
 // Replays the lines of a text, one after the other, and hands over their answers in portions.
 #![tactic(auto)]
 
-ghost use Rattle.std.specs.Prelude.{◌≡◌, ◌+◌, ◌<◌, ◌≤◌, length};
+ghost use Rattle.std.specs.Prelude.{◌≡◌, ◌+◌, ◌<◌, ◌≤◌, length, IfOk};
 ghost use Rattle.replay_rows.specs.World.{longest_line};
 ghost use Rattle.replay_rows.specs.Replayed.{language};
 ghost use Rattle.replay_steps.specs.Standing.{Held};
@@ -29,20 +29,14 @@ fn next_line(
         slots.new counters.new items.new out.new result }
     ensures from_lt_from { state.from < result.from }
 {
-    let from = state.from;
-    let Piece { end, next } = replay_words::piece_at(calls, from);
-    let mut here = state;
-    here.from = next;
+    let Piece { end, next } = replay_words::piece_at(calls, state.from);
+    let line = &calls[state.from..end];
+    let behind = State {
+        from: next,
+        ..state
+    };
     replay_reply::reply(
-        rows,
-        &calls[from..end],
-        echo,
-        slots,
-        counters,
-        items,
-        records,
-        out,
-        here,
+        rows, line, echo, slots, counters, items, records, out, behind,
     )
 }
 
@@ -76,34 +70,26 @@ fn portion(
     state
 }
 
-// Whether a portion could be written, how many bytes of the answers have then gone out, and what the system said if not.
-#[derive(Drop)]
-struct Sent {
-    whole: bool,
-    bytes: u64,
-    failure: Option<io::Error>,
-}
-
-// The next bytes of the answers go out.
-fn hand_over<R: Print>(rt: &R, portion: &[u8], calls: &[u8], echo: bool, written: u64) -> Sent
+// The next bytes of the answers go out; how many have then gone.
+fn hand_over<R: Print>(
+    rt: &R,
+    portion: &[u8],
+    calls: &[u8],
+    echo: bool,
+    written: u64,
+) -> io::Result<u64>
     requires { Next echo calls.now written portion.now }
-    ensures { result.bytes ≡ written + length portion.now }
+    ensures { IfOk result (λ gone. gone ≡ written + length portion.now) }
 {
-    let gone = rt.write_all(portion);
-    Sent {
-        whole: gone.is_ok(),
-        bytes: written + portion.len() as u64,
-        failure: gone.err(),
-    }
+    rt.write_all(portion)?;
+    Ok(written + portion.len() as u64)
 }
 
-// What came of a replay: whether all answers could be written, how many bytes of them went out, how many lines were not understood, and what the system said of a write that failed.
-#[derive(Drop)]
+// What came of a replay whose answers could all be written: how many bytes they were, and how many lines were not understood.
+#[derive(Clone, Copy, Debug)]
 pub struct Replayed {
-    pub whole: bool,
     pub bytes: u64,
     pub missed: u64,
-    pub failure: Option<io::Error>,
 }
 
 // All portions of a text's answers. A text may begin with a byte order mark.
@@ -117,7 +103,7 @@ fn portions<R: Print>(
     items: &mut [u64],
     records: &mut [u8],
     out: &mut [u8],
-) -> Replayed
+) -> io::Result<Replayed>
     requires rows_value { (rows.now ≡ language) × (length slots.old ≡ 8192) × (length counters.old ≡ 1024) × (length items.old ≡ 4096) }
     requires records_len { (length records.old ≡ 81920) × (longest_line ≤ length out.old) × (length calls.now ≤ 2097152) }
     ensures { Ended echo calls.now result }
@@ -137,34 +123,13 @@ fn portions<R: Print>(
         let full = portion(
             rows, calls, echo, slots, counters, items, records, out, state,
         );
-        let end = full.at;
-        let sent = hand_over(rt, &out[..end], calls, echo, written);
-        if !sent.whole {
-            return Replayed {
-                whole: false,
-                bytes: written,
-                missed: full.missed,
-                failure: sent.failure,
-            };
-        }
-        written = sent.bytes;
-        state = State {
-            slots: full.slots,
-            counters: full.counters,
-            items: full.items,
-            hand: full.hand,
-            number: full.number,
-            missed: full.missed,
-            from: full.from,
-            at: 0,
-        };
+        written = hand_over(rt, &out[..full.at], calls, echo, written)?;
+        state = State { at: 0, ..full };
     }
-    Replayed {
-        whole: true,
+    Ok(Replayed {
         bytes: written,
         missed: state.missed,
-        failure: None,
-    }
+    })
 }
 
 // The bytes that a list may fill: document 01's 20 bytes for each of 4,096 places. It says nothing of its elements, so that no proof counts them; nor does the next.
@@ -182,7 +147,7 @@ fn portion_bytes() -> [u8; 299008]
 }
 
 // Replays a text on a table of the program's own, with the calls shown before their answers or not. The rows are those of the language, in its order.
-pub fn replay<R: Print>(rt: &R, calls: &[u8], echo: bool) -> Replayed
+pub fn replay<R: Print>(rt: &R, calls: &[u8], echo: bool) -> io::Result<Replayed>
     requires { length calls.now ≤ 2097152 }
     ensures { Ended echo calls.now result }
 {

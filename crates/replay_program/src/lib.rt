@@ -15,7 +15,7 @@ const STATUS_PATH: &str = "/dev/fd/3";
 
 const STATUS_INFO: &str = "/proc/self/fdinfo/3";
 
-// Nothing was replayed, or the output could not be written.
+// Nothing was replayed, or the output could not be written. A status is a number: the shell takes it so.
 const NOTHING: u8 = 1;
 
 // What can't be written to standard error is lost.
@@ -43,11 +43,9 @@ fn fail(rt: &HostRuntime, what: &[u8], failure: &io::Error) {
 }
 
 // The reader of a pipe may go away: that needs no words.
-fn tell_unwritten(rt: &HostRuntime, failure: Option<io::Error>) {
-    if let Some(failure) = failure {
-        if failure.kind() != io::ErrorKind::BrokenPipe {
-            fail(rt, b"replay: the output could not be written", &failure);
-        }
+fn tell_unwritten(rt: &HostRuntime, failure: &io::Error) {
+    if failure.kind() != io::ErrorKind::BrokenPipe {
+        fail(rt, b"replay: the output could not be written", failure);
     }
 }
 
@@ -56,12 +54,13 @@ fn replay_text(rt: &HostRuntime, calls: &[u8], echo: bool) -> u8
     requires { length calls.now ≤ 2097152 }
     ensures { (result ≤ 2) × (result ≢ 1 → result ≡ status_of true (missed calls.now)) }
 {
-    let done = replay_loop::replay(rt, calls, echo);
-    if !done.whole {
-        tell_unwritten(rt, done.failure);
-        return NOTHING;
+    match replay_loop::replay(rt, calls, echo) {
+        Ok(done) => replay_rows::status(true, done.missed),
+        Err(failure) => {
+            tell_unwritten(rt, &failure);
+            NOTHING
+        }
     }
-    replay_rows::status(true, done.missed)
 }
 
 // Nothing is replayed of a file that is larger than the memory for it, or that can't be read to its end: a directory, or a failing disk.

@@ -4,5 +4,5 @@
 fn main(rt: HostRuntime) {
     let mut text = input::large_buffer();
     let n = input::fill(&mut rt.stdin(), &mut text).bytes;
-    replay_loop::replay(&rt, &text[..n], false);
+    let _ = replay_loop::replay(&rt, &text[..n], false);
 }

@@ -7,7 +7,7 @@ loop-state-init g c = (search handed_first, refl)
 
 pub loop-state-preserved : goal.loop-state-preserved
 loop-state-preserved g c =
-    (handed_more c.loop-state.invariant.0 c.portion-full.ensures.went (search rules) c.hand_over-sent.ensures, search rules)
+    (handed_more c.loop-state.invariant.0 c.portion-full.ensures.went (search rules) c.in_ok-written.ensures, search rules)
 
 pub returns : goal.returns
 returns g c = handed_all c.loop-state.invariant.0 (search rules) refl refl
