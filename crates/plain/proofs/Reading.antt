@@ -15,11 +15,10 @@ use Rattle.model.specs.Age.{bad_time, judge, verdict}
 use Rattle.model.specs.Said.{said_reading}
 use Rattle.model.proofs.ListLaws.{walk_first}
 use Rattle.model.proofs.Lent.{and_is}
-use Rattle.places.specs.Walks.{first_with, place_found}
+use Rattle.places.specs.Walks.{first_with}
 use Rattle.places.proofs.Found.{place_within}
 use Rattle.model.specs.declared.Reading.{Reading}
-use Rattle.places.specs.declared.Place.{Place}
-use Rattle.places.specs.declared.Place.TheVariants as place
+use Rattle.std.specs.Prelude.{Option, Some, None, Ok}
 use Rattle.plain.specs.Plain.{plain_read}
 
 -- items of a good length: whole places, at most 4,096
@@ -38,7 +37,7 @@ module _ (i : ℕ) {g : Bool} (e : g ≡ good_items i) (n : not g ≡ false) whe
   whole_places = omega (arith, good.0)
 
 -- the words of the place that was found
-pub words_there : (l : List ℕ) (x : ℕ) {p : ℕ} {r : Place} → place_found r ≡ first_with (length l / 4) l x → r ≡ place.At p → 4 * p + 4 ≤ length l
+pub words_there : (l : List ℕ) (x : ℕ) {p : ℕ} {r : Option ℕ} → r ≡ first_with (length l / 4) l x → r ≡ Some p → 4 * p + 4 ≤ length l
 words_there l x e q = omega (arith, place_within (length l / 4) l x e q)
 
 -- 3 is not due
@@ -61,14 +60,14 @@ module _ (l : List ℕ) (x limit now : ℕ) {g : Bool} (long : g ≡ good_items 
       unfolding plain_read
       says_three q = rw (← long, not-false g good, ne_eqb x 0 real, ← time, q)
 
-      module _ (timely : b ≡ false) (r : Place) (found : place_found r ≡ first_with (length l / 4) l x) where
-        judged : judge l limit now (place_found r) ≡ plain_read l x limit now
+      module _ (timely : b ≡ false) {r : Option ℕ} (found : r ≡ first_with (length l / 4) l x) where
+        judged : judge l limit now r ≡ plain_read l x limit now
         unfolding plain_read
         judged = ap (judge l limit now) (found ∙ sym (walk_first l x (length l / 4) 0)) ∙ rw (← long, not-false g good, ne_eqb x 0 real, ← time, timely)
 
-        pub says_judged : {p : ℕ} → r ≡ place.At p → (a : Reading) → said_reading a ≡ verdict limit now (permission l p) (stamp l p)
-            → said_reading a ≡ plain_read l x limit now
-        says_judged q a v = v ∙ sym (ap (λ (r : Place). judge l limit now (place_found r)) q) ∙ judged
+        pub says_judged : {p : ℕ} → r ≡ Some p → (a : Reading) → said_reading (Ok a) ≡ verdict limit now (permission l p) (stamp l p)
+            → said_reading (Ok a) ≡ plain_read l x limit now
+        says_judged q a v = v ∙ sym (ap (judge l limit now) q) ∙ judged
 
-        pub says_absent : r ≡ place.Nowhere → absent ≡ plain_read l x limit now
-        says_absent q = sym (ap (λ (r : Place). judge l limit now (place_found r)) q) ∙ judged
+        pub says_absent : r ≡ None → absent ≡ plain_read l x limit now
+        says_absent q = sym (ap (judge l limit now) q) ∙ judged

@@ -11,14 +11,14 @@ returns-then-animal-eq0 c = search says_two
 pub returns-then-is_bad_time : goal.returns-then-is_bad_time
 returns-then-is_bad_time c = search says_three
 
-pub place_of-found-requires : goal.place_of-found-requires
-place_of-found-requires c = (search few_places, search whole_places)
+pub place_of-requires : goal.place_of-requires
+place_of-requires c = (search few_places, search whole_places)
 
 pub judged_at-requires : goal.judged_at-requires
 judged_at-requires c = record { p_in_bounds = search words_there; minute_value = search timely }
 
-pub returns-in-At : goal.returns-in-At
-returns-in-At c = search says_judged
+pub returns-in-Some : goal.returns-in-Some
+returns-in-Some c = search says_judged
 
-pub returns-in-Nowhere : goal.returns-in-Nowhere
-returns-in-Nowhere c = search says_absent
+pub returns-in-None : goal.returns-in-None
+returns-in-None c = search says_absent
