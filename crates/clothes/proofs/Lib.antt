@@ -1,2 +1,1 @@
-pub mod Dressing
 pub mod Dressed

@@ -1,11 +1,11 @@
 -- The C clothes of an answer: document 01's number and values of it, as the fields of a reply. Assumes nothing.
-use Rattle.std.specs.Prelude.{ℕ, length, ℤ, pos, unwrap_or}
+use Rattle.std.specs.Prelude.{ℕ, [], length, ℤ, pos, unwrap_or, Result, Ok, Err}
 use Rattle.model.specs.Choice.{choose}
 use Rattle.model.specs.Moves.{four_records}
 use Rattle.model.specs.Answers.{Answer, hand_back, is, moves_told, paper, value}
+use Rattle.model.specs.Said.{refusal_number}
+use Rattle.model.specs.declared.Refusal.{Refusal}
 use Rattle.model.specs.declared.Plan.{Plan}
-use Rattle.model.specs.declared.Planning.{Planning}
-use Rattle.model.specs.declared.Planning.TheVariants as planning
 use Rattle.judgement.specs.Verdict.{Verdict, sound, broken}
 use Rattle.clothes.specs.declared.BoughladderReading.{BoughladderReading}
 use Rattle.clothes.specs.declared.BoughladderFinding.{BoughladderFinding}
@@ -38,7 +38,7 @@ finding_clothes a = record { refusal = number a; kind = value a 0; place = value
 abbrev pub setting_clothes : Answer → BoughladderSetting
 setting_clothes a = record { refusal = number a; visits = value a 1; moves = value a 2 }
 
--- plan; and a plan of the code in its clothes
+-- plan; and what the code's plan says, in its clothes
 abbrev pub plan_clothes : Answer → BoughladderPlan
 plan_clothes a =
     record {
@@ -49,13 +49,9 @@ plan_clothes a =
       moves = four_records (moves_told a);
     }
 
-abbrev pub plan_refusal : Planning → ℕ
-plan_refusal planning.Planned = 0
-plan_refusal (planning.Refused n) = n
-
-abbrev pub plan_dressed : Plan → BoughladderPlan
-plan_dressed b =
-    record { refusal = plan_refusal b.told; count = b.count; place = b.place; slot = b.slot; moves = b.moves }
+abbrev pub plan_dressed : Result Plan Refusal → BoughladderPlan
+plan_dressed (Ok b) = record { refusal = 0; count = b.count; place = b.place; slot = b.slot; moves = b.moves }
+plan_dressed (Err r) = record { refusal = refusal_number r; count = 0; place = 0; slot = 0; moves = four_records [] }
 
 -- evict, with the hand h that comes back; and with the hand that was passed in
 abbrev pub turned_clothes : ℕ → Answer → BoughladderEvicting

@@ -1,16 +1,14 @@
-// The C clothes of each answer: document 01's number and values of it, as the fields of a reply.
+// The C clothes of each answer: document 01's number and values of it, as the fields of a reply. The C interface needs plain numbers for
+// refusals, kinds and conditions.
 #![tactic(auto)]
 
-ghost use Rattle.std.specs.Prelude.{◌≡◌, List, ℕ, ◌<◌};
+ghost use Rattle.std.specs.Prelude.{◌≡◌, List, ℕ};
 ghost use Rattle.model.specs.Said.{said_reading, said_finding, said_setting, said_deleting, said_evicting, said_listing, said_starting, said_move, said_entry};
 ghost use Rattle.judgement.specs.Said.{said};
-ghost use Rattle.clothes.specs.Clothes.{number, reading_clothes, finding_clothes, setting_clothes, plan_dressed, plan_refusal, turned_clothes, listing_clothes, judgement_clothes};
+ghost use Rattle.clothes.specs.Clothes.{number, reading_clothes, finding_clothes, setting_clothes, plan_dressed, turned_clothes, listing_clothes, judgement_clothes};
 
-use judgement::Judgement;
-use model::{
-    Deleting, Evicting, Finding, Listing, MoveRecord, Plan, Planning, Reading, Setting, Starting,
-    Stepping,
-};
+use judgement::Broken;
+use model::{Evicted, MoveRecord, NO_MOVE, Plan, Reading, Refusal, Stored};
 
 // The replies. In each, `refusal` is document 01's number, 0 for success; what a call does not tell is 0.
 
@@ -77,149 +75,133 @@ pub struct BoughladderJudgement {
     pub at: usize,
 }
 
-// Requires a refusal number that fits 16 bits; document 01 has none larger.
-pub fn dress_reading(told: Reading) -> BoughladderReading
-    requires { number (said_reading told) < 65536 }
-    ensures { result ≡ reading_clothes (said_reading told) }
-{
-    match told {
-        Reading::Absent => BoughladderReading {
+impl From<Result<Reading, Refusal>> for BoughladderReading {
+    ghost from_gives = { λ told reply. reply ≡ reading_clothes (said_reading told) };
+
+    fn from(told: Result<Reading, Refusal>) -> BoughladderReading {
+        let nothing = BoughladderReading {
             refusal: 0,
             kind: 0,
             permission: 0,
             left: 0,
-        },
-        Reading::Fresh { permission, left } => BoughladderReading {
-            refusal: 0,
-            kind: 1,
-            permission,
-            left,
-        },
-        Reading::Old { left } => BoughladderReading {
-            refusal: 0,
-            kind: 2,
-            permission: 0,
-            left,
-        },
-        Reading::Ahead => BoughladderReading {
-            refusal: 0,
-            kind: 3,
-            permission: 0,
-            left: 0,
-        },
-        Reading::Refused(n) => BoughladderReading {
-            refusal: n as u16,
-            kind: 0,
-            permission: 0,
-            left: 0,
-        },
+        };
+        match told {
+            Ok(Reading::Absent) => nothing,
+            Ok(Reading::Fresh { permission, left }) => BoughladderReading {
+                kind: 1,
+                permission,
+                left,
+                ..nothing
+            },
+            Ok(Reading::Old { left }) => BoughladderReading {
+                kind: 2,
+                left,
+                ..nothing
+            },
+            Ok(Reading::Ahead) => BoughladderReading { kind: 3, ..nothing },
+            Err(refusal) => BoughladderReading {
+                refusal: refusal as u16,
+                ..nothing
+            },
+        }
     }
 }
 
-pub fn dress_finding(told: Finding) -> BoughladderFinding
-    ensures { result ≡ finding_clothes (said_finding told) }
+impl From<Result<Option<usize>, Refusal>> for BoughladderFinding {
+    ghost from_gives = { λ told reply. reply ≡ finding_clothes (said_finding told) };
+
+    fn from(told: Result<Option<usize>, Refusal>) -> BoughladderFinding {
+        match told {
+            Ok(None) => BoughladderFinding {
+                refusal: 0,
+                kind: 0,
+                place: 0,
+            },
+            Ok(Some(place)) => BoughladderFinding {
+                refusal: 0,
+                kind: 9,
+                place,
+            },
+            Err(refusal) => BoughladderFinding {
+                refusal: refusal.into(),
+                kind: 0,
+                place: 0,
+            },
+        }
+    }
+}
+
+impl From<Result<Stored, Refusal>> for BoughladderSetting {
+    ghost from_gives = { λ told reply. reply ≡ setting_clothes (said_setting told) };
+
+    fn from(told: Result<Stored, Refusal>) -> BoughladderSetting {
+        match told {
+            Ok(Stored { visits, moves }) => BoughladderSetting {
+                refusal: 0,
+                visits,
+                moves,
+            },
+            Err(refusal) => BoughladderSetting {
+                refusal: refusal.into(),
+                visits: 0,
+                moves: 0,
+            },
+        }
+    }
+}
+
+impl From<Result<Plan, Refusal>> for BoughladderPlan {
+    ghost from_gives = { λ told reply. reply ≡ plan_dressed told };
+
+    fn from(told: Result<Plan, Refusal>) -> BoughladderPlan {
+        match told {
+            Ok(plan) => {
+                let moves = plan.moves;
+                BoughladderPlan {
+                    refusal: 0,
+                    count: plan.count,
+                    place: plan.place,
+                    slot: plan.slot,
+                    moves,
+                }
+            }
+            Err(no_plan) => BoughladderPlan {
+                refusal: no_plan.into(),
+                count: 0,
+                place: 0,
+                slot: 0,
+                moves: [NO_MOVE; 4],
+            },
+        }
+    }
+}
+
+// A call that tells no more than that it was done: a step, be it a move or the final store, delete, fresh.
+pub fn dress_done(told: Result<(), Refusal>) -> u32
+    ensures moved { result ≡ number (said_move told) }
+    ensures entered { result ≡ number (said_entry told) }
+    ensures deleted { result ≡ number (said_deleting told) }
+    ensures started { result ≡ number (said_starting told) }
 {
     match told {
-        Finding::Absent => BoughladderFinding {
-            refusal: 0,
-            kind: 0,
-            place: 0,
-        },
-        Finding::At(place) => BoughladderFinding {
-            refusal: 0,
-            kind: 9,
-            place,
-        },
-        Finding::Refused(n) => BoughladderFinding {
-            refusal: n,
-            kind: 0,
-            place: 0,
-        },
-    }
-}
-
-pub fn dress_setting(told: Setting) -> BoughladderSetting
-    ensures { result ≡ setting_clothes (said_setting told) }
-{
-    match told {
-        Setting::Stored { visits, moves } => BoughladderSetting {
-            refusal: 0,
-            visits,
-            moves,
-        },
-        Setting::Refused(n) => BoughladderSetting {
-            refusal: n,
-            visits: 0,
-            moves: 0,
-        },
-    }
-}
-
-fn plan_refusal(told: Planning) -> u32
-    ensures { result ≡ plan_refusal told }
-{
-    match told {
-        Planning::Planned => 0,
-        Planning::Refused(n) => n,
-    }
-}
-
-pub fn dress_plan(plan: Plan) -> BoughladderPlan
-    ensures { result ≡ plan_dressed plan }
-{
-    let told = plan.told;
-    let refusal = plan_refusal(told);
-    let moves = plan.moves;
-    BoughladderPlan {
-        refusal,
-        count: plan.count,
-        place: plan.place,
-        slot: plan.slot,
-        moves,
-    }
-}
-
-// A step, be it a move or the final store.
-pub fn dress_stepping(told: Stepping) -> u32
-    ensures { (result ≡ number (said_move told)) × (result ≡ number (said_entry told)) }
-{
-    match told {
-        Stepping::Made => 0,
-        Stepping::Refused(n) => n,
-    }
-}
-
-pub fn dress_deleting(told: Deleting) -> u32
-    ensures { result ≡ number (said_deleting told) }
-{
-    match told {
-        Deleting::Deleted => 0,
-        Deleting::Refused(n) => n,
-    }
-}
-
-pub fn dress_starting(told: Starting) -> u32
-    ensures { result ≡ number (said_starting told) }
-{
-    match told {
-        Starting::Started => 0,
-        Starting::Refused(n) => n,
+        Ok(()) => 0,
+        Err(refusal) => refusal.into(),
     }
 }
 
 // With the hand that came back.
-pub fn dress_evicting(told: Evicting, hand: usize) -> BoughladderEvicting
+pub fn dress_evicting(told: Result<Evicted, Refusal>, hand: usize) -> BoughladderEvicting
     ensures { result ≡ turned_clothes hand (said_evicting told hand) }
 {
     match told {
-        Evicting::Evicted { victim, looked } => BoughladderEvicting {
+        Ok(Evicted { victim, looked }) => BoughladderEvicting {
             refusal: 0,
             victim,
             looked,
             hand,
         },
-        Evicting::Refused(n) => BoughladderEvicting {
-            refusal: n,
+        Err(refusal) => BoughladderEvicting {
+            refusal: refusal.into(),
             victim: 0,
             looked: 0,
             hand,
@@ -228,26 +210,33 @@ pub fn dress_evicting(told: Evicting, hand: usize) -> BoughladderEvicting
 }
 
 // Whatever the buffer holds.
-pub fn dress_listing(told: Listing) -> BoughladderListing
-    ensures { (buffer : List ℕ) → result ≡ listing_clothes (said_listing told buffer) }
-{
-    match told {
-        Listing::Listed(count) => BoughladderListing { refusal: 0, count },
-        Listing::Refused(n) => BoughladderListing {
-            refusal: n,
-            count: 0,
-        },
+impl From<Result<usize, Refusal>> for BoughladderListing {
+    ghost from_gives = { λ told reply. (buffer : List ℕ) → reply ≡ listing_clothes (said_listing told buffer) };
+
+    fn from(told: Result<usize, Refusal>) -> BoughladderListing {
+        match told {
+            Ok(count) => BoughladderListing { refusal: 0, count },
+            Err(refusal) => BoughladderListing {
+                refusal: refusal.into(),
+                count: 0,
+            },
+        }
     }
 }
 
-pub fn dress_judgement(told: Judgement) -> BoughladderJudgement
-    ensures { result ≡ judgement_clothes (said told) }
-{
-    match told {
-        Judgement::Sound => BoughladderJudgement {
-            condition: 0,
-            at: 0,
-        },
-        Judgement::Broken { condition, at } => BoughladderJudgement { condition, at },
+impl From<Result<(), Broken>> for BoughladderJudgement {
+    ghost from_gives = { λ told reply. reply ≡ judgement_clothes (said told) };
+
+    fn from(told: Result<(), Broken>) -> BoughladderJudgement {
+        match told {
+            Ok(()) => BoughladderJudgement {
+                condition: 0,
+                at: 0,
+            },
+            Err(Broken { condition, at }) => BoughladderJudgement {
+                condition: condition.into(),
+                at,
+            },
+        }
     }
 }
