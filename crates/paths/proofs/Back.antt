@@ -5,7 +5,7 @@ use native.Mathlib.Omega.{arith}
 use mathlib.Core.Path.{◌≡◌, refl, sym, ap, ◌∙◌}
 use mathlib.Core.Logic.{◌⊎◌, inl, inr, ⊎_elim}
 use mathlib.Core.List.{List, [], ◌∷◌, ◌++◌, append-nil}
-use lib.ListN.{length, get_or, set, replicate, length-append, get_or-map}
+use lib.ListN.{length, get_or, set, replicate, length-append}
 use lib.Seq.{append_snoc, set_at}
 use borrow.Author.Tests.{lt-ltb, le-ltb}
 use Rattle.model.specs.Memory.{tag}
@@ -14,11 +14,9 @@ use Rattle.model.specs.Moves.{Move, no_move, recorded, records_of}
 use Rattle.model.proofs.Records.{length_records}
 use Rattle.model.specs.Visits.{climb, lands}
 use Rattle.model.specs.declared.MoveRecord.{MoveRecord}
-use Rattle.paths.specs.declared.Entry.{Entry}
-use Rattle.paths.specs.declared.Ending.TheVariants.{Room}
 use Rattle.paths.specs.declared.Found.{Found}
 use Rattle.paths.specs.Buckets.{layout_of}
-use Rattle.paths.specs.Path.{BackFrom, buckets_of, room_from}
+use Rattle.paths.specs.Path.{room_from}
 
 -- the records of moves, one list after the other
 records_append : (T : List ℕ) (xs ys : List Move) → records_of T (xs ++ ys) ≡ records_of T xs ++ records_of T ys
@@ -41,17 +39,8 @@ pub room_same : (W : Ways) (n : ℕ) (T Q Q' : List ℕ) (v s : ℕ) → ((p : �
     → room_from W n T Q v s ≡ room_from W n T Q' v s
 room_same W n T Q Q' v s e = rw (e v (omega arith), climb_same (layout_of W n) Q Q' 2 W.reach v s e)
 
-abbrev pub no_entry : Entry
-no_entry = record { bucket = 0 }
-
-pub bucket_at : (queue : List Entry) (p : ℕ) → get_or (buckets_of queue) p 0 ≡ (get_or queue p no_entry).bucket
-bucket_at queue p = get_or-map (λ (e : Entry). e.bucket) queue p no_entry
-
 -- back from slot s of the bucket at position v
-module _ (T : List ℕ) (queue : List Entry) (v s : ℕ) where
-  abbrev Q : List ℕ
-  Q = buckets_of queue
-
+module _ (T Q : List ℕ) (v s : ℕ) where
   -- some moves are made out, and those that are left from position `at`, whose slot `to` is to be free, complete the path
   pub record Back (moves : List MoveRecord) (count at to : ℕ) : Type 0 where
     pub few : count ≤ 4
@@ -64,43 +53,25 @@ module _ (T : List ℕ) (queue : List Entry) (v s : ℕ) where
     pub whole : (n : ℕ) → gone ++ climb (layout_of four n) Q 2 (4 - count) at by ≡ climb (layout_of four n) Q 2 4 v s
     pub freed : lands (get_or Q v 0 * 4 + s) gone ≡ to
 
-  slot_at : (p i : ℕ) → (get_or queue p no_entry).bucket * 4 + i ≡ get_or Q p 0 * 4 + i
-  slot_at p i = ap (λ (b : ℕ). b * 4 + i) (sym (bucket_at queue p))
-
-  pub back_begins : {to : ℕ} → to ≡ (get_or queue v no_entry).bucket * 4 + s → Back (replicate 4 no_move) 0 v to
-  back_begins e =
-      record {
-        few = omega arith;
-        under = omega arith;
-        by = s;
-        here = e ∙ slot_at v s;
-        gone = [];
-        long = refl;
-        row = refl;
-        whole = λ n. refl;
-        freed = sym (e ∙ slot_at v s);
-      }
-
   done : (n f q i : ℕ) → (f ≡ 0) ⊎ (q < 2) → climb (layout_of four n) Q 2 f q i ≡ []
   unfolding climb
   done n zero q i e = refl
   done n (suc f) q i e = ⊎_elim (λ z. absurd (omega arith)) (λ l. rw (lt-ltb q 2 l)) e
 
   module _ {moves : List MoveRecord} {count at to : ℕ} (b : Back moves count at to) where
-    pub back_goes : {from : ℕ} → count < 4 → 2 ≤ at → from ≡ (get_or queue ((at - 2) / 4) no_entry).bucket * 4 + (at - 2) % 4
+    pub back_goes : {from : ℕ} → count < 4 → 2 ≤ at → from ≡ get_or Q ((at - 2) / 4) 0 * 4 + (at - 2) % 4
         → Back (set moves count (record { from = from; tag = get_or T from 0 / 65536; to = to })) (count + 1) ((at - 2) / 4) from
     unfolding climb tag
     back_goes {from} h k e =
         let more : 4 - count ≡ suc (4 - (count + 1)) = omega arith in
         let low : (at - 2) / 4 ≤ at - 2 = div-le_self (at - 2) 4 in
-        let e' : from ≡ get_or Q ((at - 2) / 4) 0 * 4 + (at - 2) % 4 = e ∙ slot_at ((at - 2) / 4) ((at - 2) % 4) in
         let y : Move = record { from = from; to = to } in
         let rest : List MoveRecord = replicate (4 - (count + 1)) no_move in
         record {
           few = omega arith;
           under = omega (arith, b.under);
           by = (at - 2) % 4;
-          here = e';
+          here = e;
           gone = b.gone ++ (y ∷ []);
           long = length-append b.gone (y ∷ []) ∙ rw b.long;
           row =
@@ -109,18 +80,14 @@ module _ (T : List ℕ) (queue : List Entry) (v s : ℕ) where
               ∙ sym (append_snoc (records_of T b.gone) (recorded T y) rest)
               ∙ ap (λ (l : List MoveRecord). l ++ rest) (sym (records_append T b.gone (y ∷ []))));
           whole = λ n. append_snoc b.gone y (climb (layout_of four n) Q 2 (4 - (count + 1)) ((at - 2) / 4) ((at - 2) % 4))
-              ∙ rw (e', b.here) (rw (more, le-ltb at 2 k) at (b.whole n));
+              ∙ rw (e, b.here) (rw (more, le-ltb at 2 k) at (b.whole n));
           freed = lands_last (get_or Q v 0 * 4 + s) b.gone y;
         }
 
     pub back_ends : (4 ≤ count) ⊎ (at < 2) → (n : ℕ)
-        → ◌≡◌ {A = Found} (record { ending = Room (v + 1); count = count; moves = moves; slot = to }) (room_from four n T Q v s)
+        → ◌≡◌ {A = Found} (record { visits = v + 1; count = count; moves = moves; slot = to }) (room_from four n T Q v s)
     back_ends e n =
         let none : climb (layout_of four n) Q 2 (4 - count) at b.by ≡ []
         = done n (4 - count) at b.by (⊎_elim (λ l. inl (omega arith)) (λ l. inr l) e) in
         let all : climb (layout_of four n) Q 2 4 v s ≡ b.gone = sym (b.whole n) ∙ rw none (append-nil b.gone) in
         rw (all, length_records T b.gone, b.long, b.freed, b.row)
-
-  -- a source of a move lies in the table
-  pub source_in : {p i from : ℕ} → BackFrom T Q v s → from ≡ (get_or queue p no_entry).bucket * 4 + i → p ≤ v → i < 4 → from < length T
-  source_in {p} {i} f e h k = omega (arith, f.within p h, e ∙ slot_at p i)

@@ -3,6 +3,7 @@ use Prim.Native.Nat.{ℕ, ◌+◌, ◌<◌, ◌≤◌}
 use native.Mathlib.Omega.{arith}
 use mathlib.Core.Path.{◌≡◌, refl, sym, ap, ◌∙◌, subst}
 use mathlib.Core.Bool.{true, false}
+use Rattle.std.specs.Prelude.{Result, Ok, Err}
 use mathlib.Core.List.{List, [], ◌∷◌}
 use lib.ListN.{length, get_or, take}
 use lib.Seq.{take_at}
@@ -13,10 +14,11 @@ use Rattle.model.specs.Moves.{Move, as_moves, records_of}
 use Rattle.model.specs.Visits.{free_slot, lands, search_moves, stop, stop_slot}
 use Rattle.model.proofs.Search.{length_climb, stop_le}
 use Rattle.model.proofs.ListLaws.{bool}
-use Rattle.paths.specs.declared.Ending.TheVariants.{Damaged, Nowhere, Room}
+use Rattle.model.specs.declared.Refusal.{Refusal}
+use Rattle.model.specs.declared.Refusal.TheVariants.{Damaged, NoRoom}
 use Rattle.paths.specs.declared.Found.{Found}
 use Rattle.paths.specs.Buckets.{layout_of}
-use Rattle.paths.specs.Path.{no_room, path_records}
+use Rattle.paths.specs.Path.{path_records}
 use Rattle.paths.proofs.Visits.{visits_of}
 use Rattle.model.proofs.Records.{length_records, moves_back}
 use Rattle.searching.specs.Search.{FoundIs, at_end, meets_damage_in, room_there}
@@ -28,31 +30,19 @@ module _ (W : Ways) (n m : ℕ) (T : List ℕ) (b c : ℕ) where
   abbrev the_moves : List Move
   the_moves = search_moves (layout_of W n) T (b ∷ c ∷ []) W.reach
 
-  -- room was found after v visits
-  pub record RoomFound (v : ℕ) (r : Found) : Type 0 where
+  -- room was found
+  pub record RoomFound (r : Found) : Type 0 where
     pub undamaged : meets_damage_in W n m T b c ≡ false
     pub not_at_end : at_end W n T b c ≡ false
     pub inside : stops < length (visits_of W n T b c)
-    pub visits_are : v ≡ stops + 1
+    pub visits_are : r.visits ≡ stops + 1
     pub count_is : r.count ≡ length the_moves
     pub few_moves : r.count ≤ W.reach
     pub moves_are : r.moves ≡ path_records T the_moves
     pub first_moves : as_moves (take r.count r.moves) ≡ the_moves
     pub slot_is : r.slot ≡ lands (stop_slot (layout_of W n) T (b ∷ c ∷ []) W.reach) the_moves
 
-  -- the three endings
-  data Ends : Found → Type 0 where
-    at_damage : meets_damage_in W n m T b c ≡ true → Ends (no_room Damaged)
-    at_last : meets_damage_in W n m T b c ≡ false → at_end W n T b c ≡ true → Ends (no_room Nowhere)
-    at_room : meets_damage_in W n m T b c ≡ false → at_end W n T b c ≡ false → Ends (room_there W n T b c)
-
-  ends_so : {r : Found} → FoundIs W n m T b c r → Ends r
-  ends_so f =
-      subst Ends (sym f.found_is)
-      (bool (λ d. Ends (choose d (no_room Damaged) (choose (at_end W n T b c) (no_room Nowhere) (room_there W n T b c)))) (meets_damage_in W n m T b c)
-      at_damage λ d. bool (λ e. Ends (choose e (no_room Nowhere) (room_there W n T b c))) (at_end W n T b c) (at_last d) (at_room d))
-
-  room_so : meets_damage_in W n m T b c ≡ false → at_end W n T b c ≡ false → RoomFound (stops + 1) (room_there W n T b c)
+  room_so : meets_damage_in W n m T b c ≡ false → at_end W n T b c ≡ false → RoomFound (room_there W n T b c)
   room_so d e =
       let ne = eqb-false stops (length (visits_of W n T b c)) e in
       let in_list : stops < length (visits_of W n T b c) = omega (arith, stop_le (layout_of W n) T (visits_of W n T b c)) in
@@ -70,34 +60,18 @@ module _ (W : Ways) (n m : ℕ) (T : List ℕ) (b c : ℕ) where
         slot_is = refl;
       }
 
-module _ {W : Ways} {n m : ℕ} {T : List ℕ} {b c : ℕ} where
-  pub damaged_found : {r : Found} → FoundIs W n m T b c r → r.ending ≡ Damaged → meets_damage_in W n m T b c ≡ true
-  damaged_found f e = go (ends_so W n m T b c f) e
-    where
-      go : {r : Found} → Ends W n m T b c r → r.ending ≡ Damaged → meets_damage_in W n m T b c ≡ true
-      go (at_damage d) e = d
-      go (at_last d t) e = let z : ◌≡◌ {A = ℕ} 0 1 = cc in absurd (omega arith)
-      go (at_room d t) e = let z : ◌≡◌ {A = ℕ} 0 1 = cc in absurd (omega arith)
+  -- the three endings
+  pub data Ends : Result Found Refusal → Type 0 where
+    at_damage : meets_damage_in W n m T b c ≡ true → Ends (Err Damaged)
+    at_last : meets_damage_in W n m T b c ≡ false → at_end W n T b c ≡ true → Ends (Err NoRoom)
+    at_room : {r : Found} → RoomFound r → Ends (Ok r)
 
-  pub nowhere_found : {r : Found} → FoundIs W n m T b c r → r.ending ≡ Nowhere
-      → (meets_damage_in W n m T b c ≡ false) × (at_end W n T b c ≡ true)
-  nowhere_found f e = go (ends_so W n m T b c f) e
-    where
-      go : {r : Found} → Ends W n m T b c r → r.ending ≡ Nowhere → (meets_damage_in W n m T b c ≡ false) × (at_end W n T b c ≡ true)
-      go (at_damage d) e = let z : ◌≡◌ {A = ℕ} 0 1 = cc in absurd (omega arith)
-      go (at_last d t) e = (d, t)
-      go (at_room d t) e = let z : ◌≡◌ {A = ℕ} 0 1 = cc in absurd (omega arith)
+  pub ends_so : {r : Result Found Refusal} → FoundIs W n m T b c r → Ends r
+  ends_so f =
+      subst Ends (sym f.found_is)
+      (bool (λ d. Ends (choose d (Err Damaged) (choose (at_end W n T b c) (Err NoRoom) (Ok (room_there W n T b c))))) (meets_damage_in W n m T b c) at_damage
+      λ d. bool (λ e. Ends (choose e (Err NoRoom) (Ok (room_there W n T b c)))) (at_end W n T b c) (at_last d) λ e. at_room (room_so d e))
 
-  pub room_found : {v : ℕ} {r : Found} → FoundIs W n m T b c r → r.ending ≡ Room v → RoomFound W n m T b c v r
-  room_found f e = go (ends_so W n m T b c f) e
-    where
-      go : {v : ℕ} {r : Found} → Ends W n m T b c r → r.ending ≡ Room v → RoomFound W n m T b c v r
-      go (at_damage d) e = let z : ◌≡◌ {A = ℕ} 0 1 = cc in absurd (omega arith)
-      go (at_last d t) e = let z : ◌≡◌ {A = ℕ} 0 1 = cc in absurd (omega arith)
-      go {v} (at_room d t) e =
-          let z : v ≡ stops W n m T b c + 1 = cc in
-          rw z (room_so W n m T b c d t)
-
-  -- the contract leaves nothing open
-  pub found_same : {r r' : Found} → FoundIs W n m T b c r → FoundIs W n m T b c r' → r ≡ r'
-  found_same f g = f.found_is ∙ sym g.found_is
+-- the contract leaves nothing open
+pub found_same : {W : Ways} {n m : ℕ} {T : List ℕ} {b c : ℕ} {r r' : Result Found Refusal} → FoundIs W n m T b c r → FoundIs W n m T b c r' → r ≡ r'
+found_same f g = f.found_is ∙ sym g.found_is

@@ -23,7 +23,7 @@ run_inside S T U [] rest i d r h = absurd (omega arith)
 run_inside S T U (m ∷ ms) rest zero d r h = inside_held U m.from r.0.held
 run_inside S T U (m ∷ ms) rest (suc i) d r h = simp length-set at (run_inside S T (moved U m) ms rest i d r.1 (omega arith))
 
-pub sources_in : {W : Ways} {n m : ℕ} {T : List ℕ} {b c v : ℕ} {r : Found} → Asked W T n b c → RoomFound W n m T b c v r
+pub sources_in : {W : Ways} {n m : ℕ} {T : List ℕ} {b c : ℕ} {r : Found} → Asked W T n b c → RoomFound W n m T b c r
     → (i : ℕ) → i < r.count → (d : MoveRecord) → (get_or r.moves i d).from < length T
 sources_in {W} {n} {T = T} {b} {c} ask f i h d =
     let S = layout_of W n in

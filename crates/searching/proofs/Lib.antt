@@ -1,6 +1,5 @@
 pub mod Stops
 pub mod Queue
-pub mod Judging
 pub mod Visiting
 pub mod FirstVisit
 pub mod Endings

@@ -5,6 +5,7 @@ use native.Mathlib.Decide.{dec_lt}
 use mathlib.Core.Path.{◌≡◌, ap, ap₂, ◌∙◌}
 use mathlib.Core.Logic.{dite}
 use mathlib.Core.Bool.{true, false}
+use Rattle.std.specs.Prelude.{Ok, Err}
 use mathlib.Core.List.{List}
 use lib.ListN.{length, get_or}
 use borrow.Author.Count.{below_more}
@@ -13,9 +14,9 @@ use Rattle.model.specs.Shape.{Layout, Ways}
 use Rattle.model.specs.Moves.{Free}
 use Rattle.model.specs.Visits.{first_free, free_slot}
 use Rattle.model.proofs.Search.{first_same, slot_is, stop_is}
-use Rattle.paths.specs.declared.Ending.TheVariants.{Damaged, Nowhere}
+use Rattle.model.specs.declared.Refusal.TheVariants.{Damaged, NoRoom}
 use Rattle.paths.specs.Buckets.{layout_of}
-use Rattle.paths.specs.Path.{no_room, room_from}
+use Rattle.paths.specs.Path.{room_from}
 use Rattle.paths.proofs.Visits.{damage_met, damage_of, no_damage, visits_of}
 use Rattle.searching.specs.Search.{FoundIs, at_end, meets_damage_in}
 
@@ -46,7 +47,7 @@ module _ {W : Ways} {n m : ℕ} {T : List ℕ} {b c v : ℕ} (k : Behind W n m T
       }
 
   -- the whole list is visited
-  pub stops_nowhere : v ≡ length Q → FoundIs W n m T b c (no_room Nowhere)
+  pub stops_nowhere : v ≡ length Q → FoundIs W n m T b c (Err NoRoom)
   stops_nowhere e =
       let s : v ≡ q = first_same S T Q v (omega arith) (λ h. absurd (omega arith)) k.full in
       let no : meets_damage_in W n m T b c ≡ false = no_damage W n T b c m (λ i h l. k.sound i (omega arith)) in
@@ -65,18 +66,18 @@ module _ {W : Ways} {n m : ℕ} {T : List ℕ} {b c v : ℕ} (k : Behind W n m T
         λ l. omega arith
 
     -- the bucket there is damaged
-    pub stops_damaged : damage_of W n T b c m v ≡ true → FoundIs W n m T b c (no_room Damaged)
+    pub stops_damaged : damage_of W n T b c m v ≡ true → FoundIs W n m T b c (Err Damaged)
     stops_damaged e =
         let yes : meets_damage_in W n m T b c ≡ true = damage_met W n T b c m v not_before h e in
         record { found_is = rw yes }
 
     -- it is not, and s is its lowest free slot
     pub stops_with_room : {s : ℕ} → damage_of W n T b c m v ≡ false → s < W.ways → s ≡ free_slot S T (get_or Q v 0)
-        → FoundIs W n m T b c (room_from W n T Q v s)
+        → FoundIs W n m T b c (Ok (room_from W n T Q v s))
     stops_with_room {s} d l e =
         let stops : v ≡ q = first_same S T Q v (omega arith)
         (λ z. (s, l, rw (← e) at ((slot_is S T (get_or Q v 0)).free (rw (← e) l)))) k.full in
         let no : meets_damage_in W n m T b c ≡ false
         = no_damage W n T b c m (λ i z y. below_more (λ i. damage_of W n T b c m i ≡ false) v k.sound d i (omega arith)) in
         let inside : at_end W n T b c ≡ false = ne_eqb q (length Q) (λ z. omega arith) in
-        record { found_is = rw (no, inside) (ap₂ (room_from W n T Q) stops (e ∙ ap (λ p. free_slot S T (get_or Q p 0)) stops)) }
+        record { found_is = rw (no, inside) (ap Ok (ap₂ (room_from W n T Q) stops (e ∙ ap (λ p. free_slot S T (get_or Q p 0)) stops))) }

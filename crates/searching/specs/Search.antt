@@ -1,13 +1,14 @@
 -- What the search comes to, in the model's words, for any ways. Assumes nothing.
-use Rattle.std.specs.Prelude.{ℕ, ◌*◌, ◌<◌, ◌≡◌, Bool, List, [], ◌∷◌, length, eqb}
+use Rattle.std.specs.Prelude.{ℕ, ◌*◌, ◌<◌, ◌≡◌, Bool, List, [], ◌∷◌, length, eqb, Result, Ok, Err}
 use Rattle.model.specs.Choice.{choose}
 use Rattle.model.specs.Hash.{Size}
 use Rattle.model.specs.Shape.{Ways}
 use Rattle.model.specs.Visits.{meets_damage, search_moves, stop, stop_slot, visit_list}
-use Rattle.paths.specs.declared.Ending.TheVariants.{Damaged, Nowhere}
+use Rattle.model.specs.declared.Refusal.{Refusal}
+use Rattle.model.specs.declared.Refusal.TheVariants.{Damaged, NoRoom}
 use Rattle.paths.specs.declared.Found.{Found}
 use Rattle.paths.specs.Buckets.{layout_of}
-use Rattle.paths.specs.Path.{no_room, room_at}
+use Rattle.paths.specs.Path.{room_at}
 
 -- what the search takes: a good number n of buckets, their slots T, and two of the buckets
 pub record Asked (W : Ways) (T : List ℕ) (n b c : ℕ) : Type 0 where
@@ -35,5 +36,5 @@ module _ (W : Ways) (n m : ℕ) (T : List ℕ) (b c : ℕ) where
   meets_damage_in = meets_damage (layout_of W n) T (b ∷ c ∷ []) m W.reach
 
   -- what it gives back, with nothing left open: damage comes first, then no room
-  pub record FoundIs (r : Found) : Type 0 where
-    pub found_is : r ≡ choose meets_damage_in (no_room Damaged) (choose (at_end W n T b c) (no_room Nowhere) (room_there W n T b c))
+  pub record FoundIs (r : Result Found Refusal) : Type 0 where
+    pub found_is : r ≡ choose meets_damage_in (Err Damaged) (choose (at_end W n T b c) (Err NoRoom) (Ok (room_there W n T b c)))

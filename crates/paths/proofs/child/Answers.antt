@@ -5,12 +5,12 @@ use Rattle.model.specs.Memory.{tag}
 use Rattle.model.proofs.Hash.{other_lt, size_most}
 use Rattle.paths.proofs.child.Goals as goal
 
-pub narrow-requires : goal.narrow-requires
-narrow-requires c =
+pub overflow_cast-result : goal.overflow_cast-result
+overflow_cast-result c =
     let a = c.args in
     let p = c.requires in
-    omega (arith, other_lt p.0 (a.w / 65536) a.b p.1, size_most p.0, c.other_of-other.ensures)
+    omega (arith, other_lt p.0 (a.w / 65536) a.b p.1, size_most p.0, c.other_of.ensures)
 
 pub returns : goal.returns
 unfolding tag
-returns c = rw (c.narrow.ensures, c.other_of-other.ensures)
+returns c = rw c.other_of.ensures

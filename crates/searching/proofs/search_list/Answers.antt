@@ -1,59 +1,47 @@
 -- `searching::search_list` meets its contract: no bucket before the present position has a damaged word or a free slot. Assumes nothing.
-use Rattle.searching.proofs.Judging.{none_damaged, none_damaged_more, none_free, none_free_more}
-use Rattle.searching.proofs.Visiting.{at_visit, back_from, first_fits, may_lead, onward, pushed, second_fits, visit_damaged, visit_homes, visit_none, visit_room, words_in}
-use borrow.Author.Rules.{rules}
+use mathlib.Core.Path.{refl, ap, ◌∙◌}
+use Rattle.std.specs.Prelude.{Ok}
+use Rattle.std.proofs.lemmas.Result.{err_from_is_err_and}
+use Rattle.searching.proofs.Visiting.{back_from, may_lead, onward, push_one, pushed, slot_small, visit_damaged, visit_homes, visit_none, visit_room, words_in}
 use Rattle.searching.proofs.search_list.Goals as goal
+use Rattle.searching.proofs.search_list.Goals.{then-v-ltNEAR+else-loop-s-test, else-v-ltNEAR}
 
-pub narrow-requires : goal.narrow-requires
-narrow-requires c = search first_fits
+pub loop-v-init : goal.loop-v-init
+loop-v-init c = visit_homes _ _ _ _ _ c.requires refl refl
 
-pub narrow-requires-2 : goal.narrow-requires-2
-narrow-requires-2 c = search second_fits
+pub words_at-words-requires : goal.words_at-words-requires
+words_at-words-requires c = words_in c.loop-v.invariant c.loop-v-test.true
 
-pub search-init : goal.search-init
-search-init c = (search visit_homes, search rules)
+pub returns-in_err-s : goal.returns-in_err-s
+returns-in_err-s c =
+    let p = err_from_is_err_and c.from_residual.result c.from_residual.ensures.1 in
+    rw (p.1, p.2) (visit_damaged c.loop-v.invariant c.loop-v-test.true c.words_at-words.ensures c.free_among.ensures c.in_err-s.was)
 
-pub words_at-w-requires : goal.words_at-w-requires
-words_at-w-requires c = words_in (at_visit c.search.invariant.0 c.search-test.true c.wide-b.ensures)
+pub path_back-requires : goal.path_back-requires
+path_back-requires c =
+    let room = c.in_ok-s.was ∙ ap Ok c.in-Some.is in
+    back_from c.loop-v.invariant c.loop-v-test.true (slot_small c.loop-v.invariant c.loop-v-test.true c.words_at-words.ensures c.free_among.ensures room)
 
-pub loop-i-init : goal.loop-i-init
-loop-i-init c = (search none_damaged, search rules)
-
-pub loop-i-preserved : goal.loop-i-preserved
-loop-i-preserved c = (search none_damaged_more, search rules)
-
-pub loop-s-init : goal.loop-s-init
-loop-s-init c = (search none_free, search rules)
-
-pub path_back-found-requires : goal.path_back-found-requires
-path_back-found-requires c = let a = at_visit c.search.invariant.0 c.search-test.true c.wide-b.ensures in search back_from
-
-pub loop-s-preserved : goal.loop-s-preserved
-loop-s-preserved c = (search none_free_more, search rules)
-
-pub search-preserved-then-v-ge170 : goal.search-preserved-then-v-ge170
-search-preserved-then-v-ge170 c = let a = at_visit c.search.invariant.0 c.search-test.true c.wide-b.ensures in (search onward, search rules)
+pub returns-in-Some : goal.returns-in-Some
+returns-in-Some c =
+    visit_room c.loop-v.invariant c.loop-v-test.true c.words_at-words.ensures c.free_among.ensures (c.in_ok-s.was ∙ ap Ok c.in-Some.is) c.path_back.ensures
 
 pub child-requires : goal.child-requires
-child-requires c = may_lead (at_visit c.search.invariant.0 c.search-test.true c.wide-b.ensures)
+child-requires c = may_lead c.loop-v.invariant c.loop-v-test.true
 
-pub child-requires-in-search : goal.child-requires-in-search
-child-requires-in-search c = may_lead (at_visit c.search.invariant.0 c.search-test.true c.wide-b.ensures)
+pub loop-s-preserved : goal.loop-s-preserved
+loop-s-preserved c =
+    push_one c.loop-v.invariant c.loop-v-test.true c.words_at-words.ensures c.if-v-ltNEAR.true c.loop-s-test.true c.loop-s.invariant c.child.ensures
 
-pub child-requires-in-search-2 : goal.child-requires-in-search-2
-child-requires-in-search-2 c = may_lead (at_visit c.search.invariant.0 c.search-test.true c.wide-b.ensures)
+pub loop-v-preserved : goal.loop-v-preserved
+loop-v-preserved c =
+    let crowded = c.in_ok-s.was ∙ ap Ok c.in_default.is in
+    elim c.if-v-ltNEAR.branch [
+      | then-v-ltNEAR+else-loop-s-test w ↦ rw w.queue-is
+          (pushed c.loop-v.invariant c.loop-v-test.true c.words_at-words.ensures c.free_among.ensures crowded w.loop-s.invariant w.loop-s-test.false)
+      | else-v-ltNEAR w ↦ rw w.queue-is
+          (onward c.loop-v.invariant c.loop-v-test.true c.words_at-words.ensures c.free_among.ensures crowded w.if-v-ltNEAR.false)
+    ]
 
-pub child-requires-in-search-3 : goal.child-requires-in-search-3
-child-requires-in-search-3 c = may_lead (at_visit c.search.invariant.0 c.search-test.true c.wide-b.ensures)
-
-pub search-preserved : goal.search-preserved
-search-preserved c = let a = at_visit c.search.invariant.0 c.search-test.true c.wide-b.ensures in (search pushed, search rules)
-
-pub returns-after-search : goal.returns-after-search
-returns-after-search c = search visit_none
-
-pub returns-then-is_damaged : goal.returns-then-is_damaged
-returns-then-is_damaged c = let a = at_visit c.search.invariant.0 c.search-test.true c.wide-b.ensures in search visit_damaged
-
-pub returns-then-w-s-eq0 : goal.returns-then-w-s-eq0
-returns-then-w-s-eq0 c = let a = at_visit c.search.invariant.0 c.search-test.true c.wide-b.ensures in search visit_room
+pub returns : goal.returns
+returns c = visit_none _ _ _ _ _ c.loop-v.invariant c.loop-v-test.false
