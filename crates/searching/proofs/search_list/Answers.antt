@@ -4,7 +4,7 @@ use Rattle.std.specs.Prelude.{Ok}
 use Rattle.std.proofs.lemmas.Result.{err_from_is_err_and}
 use Rattle.searching.proofs.Visiting.{back_from, may_lead, onward, push_one, pushed, slot_small, visit_damaged, visit_homes, visit_none, visit_room, words_in}
 use Rattle.searching.proofs.search_list.Goals as goal
-use Rattle.searching.proofs.search_list.Goals.{then-v-ltNEAR+else-loop-s-test, else-v-ltNEAR}
+use Rattle.searching.proofs.search_list.Goals.{then-v-lt-NEAR+else-loop-s-test, else-v-lt-NEAR}
 
 pub loop-v-init : goal.loop-v-init
 loop-v-init c = visit_homes _ _ _ _ _ c.requires refl refl
@@ -31,16 +31,16 @@ child-requires c = may_lead c.loop-v.invariant c.loop-v-test.true
 
 pub loop-s-preserved : goal.loop-s-preserved
 loop-s-preserved c =
-    push_one c.loop-v.invariant c.loop-v-test.true c.words_at-words.ensures c.if-v-ltNEAR.true c.loop-s-test.true c.loop-s.invariant c.child.ensures
+    push_one c.loop-v.invariant c.loop-v-test.true c.words_at-words.ensures c.if-v-lt-NEAR.true c.loop-s-test.true c.loop-s.invariant c.child.ensures
 
 pub loop-v-preserved : goal.loop-v-preserved
 loop-v-preserved c =
     let crowded = c.in_ok-s.was ∙ ap Ok c.in_default.is in
-    elim c.if-v-ltNEAR.branch [
-      | then-v-ltNEAR+else-loop-s-test w ↦ rw w.queue-is
+    elim c.if-v-lt-NEAR.branch [
+      | then-v-lt-NEAR+else-loop-s-test w ↦ rw w.queue-is
           (pushed c.loop-v.invariant c.loop-v-test.true c.words_at-words.ensures c.free_among.ensures crowded w.loop-s.invariant w.loop-s-test.false)
-      | else-v-ltNEAR w ↦ rw w.queue-is
-          (onward c.loop-v.invariant c.loop-v-test.true c.words_at-words.ensures c.free_among.ensures crowded w.if-v-ltNEAR.false)
+      | else-v-lt-NEAR w ↦ rw w.queue-is
+          (onward c.loop-v.invariant c.loop-v-test.true c.words_at-words.ensures c.free_among.ensures crowded w.if-v-lt-NEAR.false)
     ]
 
 pub returns : goal.returns
