@@ -16,9 +16,8 @@ use Rattle.model.proofs.ListLaws.{true_false}
 use Rattle.model.proofs.ShapeLaws.{Lawful}
 use Rattle.model.proofs.Lent.{fit, law}
 use Rattle.hashing.specs.Homes.{HomesAre}
-use Rattle.looking.specs.Look.{HomesIn, early}
+use Rattle.looking.specs.Look.{HomesIn}
 use Rattle.hashing.specs.declared.Homes.{Homes}
-use Rattle.looking.proofs.Early.{passed_lengths}
 
 both : (b c : Bool) → (b && c) ≡ true → (b ≡ true) × (c ≡ true)
 both true c e = (refl, e)
@@ -71,13 +70,3 @@ module _ (W : Ways) (m : Mem) (right : right_lengths W m ≡ true) where
         second_in = rw h.second_is (bucket_in (second_of Y x) (L.other_in (Y.tag_of x) (Y.first_of x) (L.first_in x)));
         counter_in = rw h.counter_is (mod-lt (min (Y.first_of x) (second_of Y x)) L.some_counter);
       }
-
--- where no early refusal is due
-pub passed_places : (W : Ways) (s c i : List ℕ) (x : ℕ) (b : Bool) {n : ℕ} → n ≡ early (right_lengths W (mem s c i)) x b → n ≡ 0 → length i / 4 < 2 ^ 32
-passed_places W s c i x b e z = places_fit W s c i (passed_lengths W (mem s c i) x b e z)
-
-pub passed_some : (W : Ways) (s c i : List ℕ) (x : ℕ) (b : Bool) {n : ℕ} → n ≡ early (right_lengths W (mem s c i)) x b → n ≡ 0 → 1 ≤ length i / 4
-passed_some W s c i x b e z = places_some W s c i (passed_lengths W (mem s c i) x b e z)
-
-pub passed_named : (W : Ways) (s c i : List ℕ) (x : ℕ) (b : Bool) {n : ℕ} → n ≡ early (right_lengths W (mem s c i)) x b → n ≡ 0 → length i / 4 ≤ 65536
-passed_named W s c i x b e z = places_named W s c i (passed_lengths W (mem s c i) x b e z)

@@ -1,164 +1,119 @@
 -- Refusals 8 and 4, then the hit: a law a way out, in the code's own words; and what a look says of a call. Assumes nothing.
 use Prim.Native.Nat.{ℕ, ◌+◌, ◌*◌, ◌≤◌, ◌%◌, ◌/◌}
-use native.Mathlib.Omega.{arith}
-use native.Mathlib.Decide.{ℕ_discrete}
-use mathlib.Core.Path.{◌≡◌, refl, sym, ap, ◌∙◌, subst}
-use mathlib.Core.Logic.{◌≢◌, dite}
+use mathlib.Core.Path.{◌≡◌, refl, sym, ap, ◌∙◌, ap₂}
 use mathlib.Core.Bool.{Bool, true, false}
-use Rattle.std.specs.Prelude.{Option, Some, None}
 use mathlib.Core.List.{List}
 use lib.ListN.{length, get_or}
 use lib.Dec.{eqb}
-use borrow.Author.Tests.{eq-eqb, ne_eqb}
-use Rattle.model.specs.Choice.{any, choose, first}
+use Rattle.std.specs.Prelude.{Some, None, Result, Ok, Err, option_map}
+use Rattle.model.specs.Choice.{any, choose}
 use Rattle.model.specs.Memory.{Mem, damaged, mem, place}
-use Rattle.model.specs.Shape.{Shape, Ways, shape_of}
+use Rattle.model.specs.Said.{refusal_number}
+use Rattle.model.specs.Shape.{Ways, shape_of}
 use Rattle.model.specs.Calls.{Outcome, busy, held, home_damage, refuse}
-use Rattle.model.proofs.ListLaws.{bool}
-use Rattle.home_words.specs.HomeWords.{found_word, home_words, leads}
-use Rattle.home_words.proofs.Sound.{found_in}
-use Rattle.looking.specs.Look.{HomesIn, LooksUp, Passed, look_of, look_word, own_word, own_words}
+use Rattle.model.specs.declared.Refusal.{Refusal}
+use Rattle.model.specs.declared.Refusal.TheVariants as refusal
+use Rattle.home_words.specs.HomeWords.{home_words}
+use Rattle.home_words.proofs.Sound.{hit_reads}
+use Rattle.looking.specs.Look.{HomesIn, LooksHome, LooksUp, Passed, own_hit, own_words, sound}
 use Rattle.looking.proofs.Early.{asked_now, past_early}
-use Rattle.looking.proofs.OwnWords.{damage_is, damage_words, held_word, hit_is, odd_is, word_place}
+use Rattle.looking.proofs.OwnWords.{damage_is, damage_words, held_hit, odd_is, words_are}
 use Rattle.hashing.specs.declared.Homes.{Homes}
-use Rattle.looking.specs.declared.Look.{Look}
-use Rattle.looking.specs.declared.Look.TheVariants as look
+use Rattle.looking.specs.declared.Home.{Home}
 use Rattle.looking.specs.declared.Looked.{Looked}
 
--- the ways out of a look
+-- the ways out of a look at the home words
 module _ (W : Ways) (m : Mem) (x : ℕ) {h : Homes} (hs : HomesIn W m x h) {b : Bool} (odd : b ≡ eqb (get_or m.counters h.counter 0 % 2) 1) where
-  abbrev Y : Shape
-  Y = shape_of W m
+  abbrev home : Result (List ℕ) Refusal → Home
+  home ws = record { homes = h; words = ws }
 
-  abbrev looked : Look → Looked
-  looked l = record { look = l; homes = h }
+  abbrev tested : Bool → Bool → List ℕ → Result (List ℕ) Refusal
+  tested b c ws = choose b (Err refusal.Busy) (choose c (Err refusal.Damaged) (Ok ws))
 
-  abbrev sound_look : Look
-  sound_look = choose (home_damage Y m x) (look.Refused 4) (look_word W (own_word W m x))
-
-  pub look_busy : b ≡ true → LooksUp W m x (looked (look.Refused 8))
-  look_busy e = record { look_is = sym (ap (λ z. choose z (look.Refused 8) sound_look) (sym (odd_is W m x hs odd) ∙ e)); homes_are = hs }
+  pub home_busy : b ≡ true → LooksHome W m x (home (Err refusal.Busy))
+  home_busy e =
+      record {
+        words_are = ap (λ b. tested b (home_damage (shape_of W m) m x) (own_words W m x)) (sym e ∙ odd_is W m x hs odd);
+        homes_are = hs;
+      }
 
   module _ (calm : b ≡ false) {ws : List ℕ} {k : ℕ} {c : Bool} (words : ws ≡ home_words W.ways m.slots h.first h.second)
       (places : k ≡ length m.items / 4) (damage : c ≡ any (damaged k) ws) where
-    not_busy : look_of W m x ≡ sound_look
-    not_busy = ap (λ z. choose z (look.Refused 8) sound_look) (sym (odd_is W m x hs odd) ∙ calm)
+    judged : {d : Bool} → c ≡ d → tested false d (own_words W m x) ≡ sound W m x (own_words W m x)
+    judged e = ap₂ (λ b c. tested b c (own_words W m x)) (sym calm ∙ odd_is W m x hs odd) (sym e ∙ damage_is W m x hs words places damage)
 
-    judged : {d : Bool} → c ≡ d → look_of W m x ≡ choose d (look.Refused 4) (look_word W (own_word W m x))
-    judged e = not_busy ∙ ap (λ z. choose z (look.Refused 4) (look_word W (own_word W m x))) (sym (damage_is W m x hs words places damage) ∙ e)
+    pub home_damaged : c ≡ true → LooksHome W m x (home (Err refusal.Damaged))
+    home_damaged e = record { words_are = judged e; homes_are = hs }
 
-    pub look_damaged : c ≡ true → LooksUp W m x (looked (look.Refused 4))
-    look_damaged e = record { look_is = sym (judged e); homes_are = hs }
+    pub home_sound : c ≡ false → LooksHome W m x (home (Ok ws))
+    home_sound e = record { words_are = ap Ok (words_are W m x hs words) ∙ judged e; homes_are = hs }
 
-    module _ (sound : c ≡ false) {w : ℕ} (hit : w ≡ found_word (first (leads m.items h.tag x) ws)) where
-      word_now : look_of W m x ≡ look_word W w
-      word_now = judged sound ∙ ap (look_word W) (sym (hit_is W m x hs words hit))
+-- what refusals 8 and 4 say: one is due, or neither
+module _ (W : Ways) (m : Mem) (x : ℕ) {A : Type 0} (a : A) {e : Result A Refusal} (s : e ≡ sound W m x a) where
+  by_tests : (b d : Bool) {r : Refusal} (o : Outcome) → choose b (Err refusal.Busy) (choose d (Err refusal.Damaged) (Ok a)) ≡ Err r
+      → choose b (refuse 8) (choose d (refuse 4) o) ≡ refuse (refusal_number r)
+  by_tests true d o f = let k = f in cc
+  by_tests false true o f = let k = f in cc
+  by_tests false false o f = absurd (cc)
 
-      pub look_absent : w ≡ 0 → LooksUp W m x (looked look.Absent)
-      look_absent z = record { look_is = sym (word_now ∙ ap (λ b. choose b look.Absent (look.At w)) (eq-eqb w 0 z)); homes_are = hs }
+  pub sound_refused : {r : Refusal} → e ≡ Err r → (o : Outcome)
+      → choose (busy (shape_of W m) m x) (refuse 8) (choose (home_damage (shape_of W m) m x) (refuse 4) o) ≡ refuse (refusal_number r)
+  sound_refused q o = by_tests (busy (shape_of W m) m x) (home_damage (shape_of W m) m x) o (sym s ∙ q)
 
-      pub look_at : w ≢ 0 → LooksUp W m x (looked (look.At w))
-      look_at nz = record { look_is = sym (word_now ∙ ap (λ b. choose b look.Absent (look.At w)) (ne_eqb w 0 nz)); homes_are = hs }
+  -- neither: then that is the value behind them
+  record Calm (b d : Bool) (c : A) : Type 0 where
+    pub calm : b ≡ false
+    pub whole : d ≡ false
+    pub same : a ≡ c
 
--- the place of a hit lies in the items: no home word is damaged
-pub look_inside : (W : Ways) (s c i : List ℕ) (x : ℕ) {r : Looked} → LooksUp W (mem s c i) x r → {w : ℕ} → r.look ≡ look.At w → 4 * (w % 65536) + 4 ≤ length i
-unfolding place
-look_inside W s c i x l {w} e = go (busy Z m x) (home_damage Z m x) (own_word W m x) refl refl (sym l.look_is ∙ e)
-  where
-    m : Mem
-    m = mem s c i
+  neither : (b d : Bool) {c : A} → choose b (Err refusal.Busy) (choose d (Err refusal.Damaged) (Ok a)) ≡ Ok c → Calm b d c
+  neither true d f = absurd (cc)
+  neither false true f = absurd (cc)
+  neither false false f = record { calm = refl; whole = refl; same = cc }
 
-    Z : Shape
-    Z = shape_of W m
+  module _ {c : A} (q : e ≡ Ok c) where
+    now_calm : Calm (busy (shape_of W m) m x) (home_damage (shape_of W m) m x) c
+    now_calm = neither (busy (shape_of W m) m x) (home_damage (shape_of W m) m x) (sym s ∙ q)
 
-    go : (b d : Bool) (v : ℕ) → home_damage Z m x ≡ d → v ≡ own_word W m x → choose b (look.Refused 8) (choose d (look.Refused 4) (look_word W v)) ≡ look.At w
-        → 4 * (w % 65536) + 4 ≤ length i
-    go true d v h f q = let z : ◌≡◌ {A = ℕ} 0 1 = cc in absurd (omega arith)
-    go false true v h f q = let z : ◌≡◌ {A = ℕ} 0 1 = cc in absurd (omega arith)
-    go false false v h f q =
-        dite (ℕ_discrete v 0)
-        (λ z. let k : choose (eqb v 0) look.Absent (look.At v) ≡ look.Absent = rw (eq-eqb v 0 z) in let n : ◌≡◌ {A = ℕ} 0 1 = cc in absurd (omega arith))
-        λ nz. let k : choose (eqb v 0) look.Absent (look.At v) ≡ look.At v = rw (ne_eqb v 0 nz) in
-        let same : v ≡ w = cc in
-        let pos : 1 ≤ Z.tag_of x = rw (← l.homes_are.tag_is) l.homes_are.tag_low in
-        omega (arith, same, found_in (length i / 4) (Z.tag_of x) pos i x (own_words W m x) (damage_words W m x ∙ h) f nz)
+    pub sound_whole : home_damage (shape_of W m) m x ≡ false
+    sound_whole = now_calm.whole
+
+    pub sound_value : a ≡ c
+    sound_value = now_calm.same
+
+    pub neither_due : {B : Type 0} (v : B) → sound W m x v ≡ Ok v
+    neither_due v = ap₂ (λ b d. choose b (Err refusal.Busy) (choose d (Err refusal.Damaged) (Ok v))) now_calm.calm now_calm.whole
+
+    pub sound_calm : (o : Outcome) → choose (busy (shape_of W m) m x) (refuse 8) (choose (home_damage (shape_of W m) m x) (refuse 4) o) ≡ o
+    sound_calm o = ap₂ (λ b d. choose b (refuse 8) (choose d (refuse 4) o)) now_calm.calm now_calm.whole
+
+-- no word that a look goes on with is damaged
+pub look_sound : (W : Ways) (m : Mem) (x : ℕ) {h : Home} → LooksHome W m x h → {ws : List ℕ} → h.words ≡ Ok ws
+    → any (damaged (length m.items / 4)) ws ≡ false
+look_sound W m x l q =
+    ap (any (damaged (length m.items / 4))) (sym (sound_value W m x (own_words W m x) l.words_are q)) ∙ damage_words W m x
+    ∙ sound_whole W m x (own_words W m x) l.words_are q
 
 -- what a look says of a call about animal x, where o is what comes behind refusals 8 and 4
-module _ (W : Ways) (m : Mem) (x : ℕ) (bad : Bool) (o : Outcome) where
-  abbrev Z : Shape
-  Z = shape_of W m
+module _ (W : Ways) (m : Mem) (x : ℕ) (bad : Bool) (o : Outcome) (p : Passed W m x bad) {r : Looked} (l : LooksUp W m x r) where
+  pub look_refused : {k : Refusal} → r.hit ≡ Err k → asked_now W m x bad o ≡ refuse (refusal_number k)
+  look_refused q = past_early W m x bad p o ∙ sound_refused W m x (own_hit W m x) l.hit_is q o
 
-  data Looks : Look → Type 0 where
-    refusing : (n : ℕ) → asked_now W m x bad o ≡ refuse n → Looks (look.Refused n)
-    lacking : asked_now W m x bad o ≡ o → held Z m x ≡ None → Looks look.Absent
-    holding : (w : ℕ) → asked_now W m x bad o ≡ o → held Z m x ≡ Some (place w) → w ≢ 0 → w ≡ own_word W m x → Looks (look.At w)
+  pub look_lacks : r.hit ≡ Ok None → (asked_now W m x bad o ≡ o) × (held (shape_of W m) m x ≡ None)
+  look_lacks q =
+      (past_early W m x bad p o ∙ sound_calm W m x (own_hit W m x) l.hit_is q o, held_hit W m x ∙ ap (option_map place) (sound_value W m x (own_hit W m x) l.hit_is q))
 
-  module _ (p : Passed W m x bad) where
-    by_word : (w : ℕ) → w ≡ own_word W m x → asked_now W m x bad o ≡ o → Looks (look_word W w)
-    by_word w e q =
-        let there : held Z m x ≡ word_place w = held_word W m x p.lengths ∙ ap word_place (sym e) in
-        dite (ℕ_discrete w 0)
-        (λ z. subst (λ b. Looks (choose b look.Absent (look.At w))) (sym (eq-eqb w 0 z)) (lacking q (there ∙ ap (λ b. choose b None (Some (place w))) (eq-eqb w 0 z))))
-        λ nz. subst (λ b. Looks (choose b look.Absent (look.At w))) (sym (ne_eqb w 0 nz))
-        (holding w q (there ∙ ap (λ b. choose b None (Some (place w))) (ne_eqb w 0 nz)) nz e)
+  pub look_holds : {w : ℕ} → r.hit ≡ Ok (Some w)
+      → (asked_now W m x bad o ≡ o) × (held (shape_of W m) m x ≡ Some (place w)) × (own_hit W m x ≡ Some w)
+  look_holds q =
+      let v = sound_value W m x (own_hit W m x) l.hit_is q in
+      (past_early W m x bad p o ∙ sound_calm W m x (own_hit W m x) l.hit_is q o, held_hit W m x ∙ ap (option_map place) v, v)
 
-    looks : Looks (look_of W m x)
-    looks =
-        bool (λ b. asked_now W m x bad o ≡ choose b (refuse 8) (choose (home_damage Z m x) (refuse 4) o)
-        → Looks (choose b (look.Refused 8) (choose (home_damage Z m x) (look.Refused 4) (look_word W (own_word W m x)))))
-        (busy Z m x) (λ t e. refusing 8 e)
-        (λ t. bool (λ b. asked_now W m x bad o ≡ choose b (refuse 4) o → Looks (choose b (look.Refused 4) (look_word W (own_word W m x))))
-        (home_damage Z m x) (λ t e. refusing 4 e) λ t e. by_word (own_word W m x) refl e) (past_early W m x bad p o)
-
-  refused_by : {k : Look} → Looks k → {n' : ℕ} → k ≡ look.Refused n' → asked_now W m x bad o ≡ refuse n'
-  refused_by (refusing n q) {n'} e = let f : n ≡ n' = cc in q ∙ ap refuse f
-  refused_by (lacking q h) e = let z : ◌≡◌ {A = ℕ} 0 1 = cc in absurd (omega arith)
-  refused_by (holding w q h nz f) e = let z : ◌≡◌ {A = ℕ} 0 1 = cc in absurd (omega arith)
-
-  absent_by : {k : Look} → Looks k → k ≡ look.Absent → (asked_now W m x bad o ≡ o) × (held Z m x ≡ None)
-  absent_by (refusing n q) e = let z : ◌≡◌ {A = ℕ} 0 1 = cc in absurd (omega arith)
-  absent_by (lacking q h) e = (q, h)
-  absent_by (holding w q h nz f) e = let z : ◌≡◌ {A = ℕ} 0 1 = cc in absurd (omega arith)
-
-  held_by : {k : Look} → Looks k → {w' : ℕ} → k ≡ look.At w'
-      → (asked_now W m x bad o ≡ o) × (held Z m x ≡ Some (place w')) × (w' ≢ 0) × (w' ≡ own_word W m x)
-  held_by (refusing n q) e = let z : ◌≡◌ {A = ℕ} 0 1 = cc in absurd (omega arith)
-  held_by (lacking q h) e = let z : ◌≡◌ {A = ℕ} 0 1 = cc in absurd (omega arith)
-  held_by (holding w q h nz f) {w'} e = let g : w ≡ w' = cc in rw (← g) (q, h, nz, f)
-
-  -- the three ways, for a caller that looked
-  module _ (p : Passed W m x bad) {r : Looked} (l : LooksUp W m x r) where
-    pub look_refused : {n : ℕ} → r.look ≡ look.Refused n → asked_now W m x bad o ≡ refuse n
-    look_refused e = refused_by (looks p) (sym l.look_is ∙ e)
-
-    pub look_lacks : r.look ≡ look.Absent → (asked_now W m x bad o ≡ o) × (held Z m x ≡ None)
-    look_lacks e = absent_by (looks p) (sym l.look_is ∙ e)
-
-    pub look_holds : {w : ℕ} → r.look ≡ look.At w
-        → (asked_now W m x bad o ≡ o) × (held Z m x ≡ Some (place w)) × (w ≢ 0) × (w ≡ own_word W m x)
-    look_holds e = held_by (looks p) (sym l.look_is ∙ e)
-
--- the same for a caller that looks at the words itself: what comes behind refusals 8 and 4 goes by the place where the animal is held
-module _ (W : Ways) (m : Mem) (x : ℕ) (bad : Bool) (p : Passed W m x bad) (rest : Option ℕ → Outcome) {h : Homes} (hs : HomesIn W m x h) {b : Bool}
-    (odd : b ≡ eqb (get_or m.counters h.counter 0 % 2) 1) where
-  abbrev whole : Outcome
-  whole = asked_now W m x bad (rest (held (shape_of W m) m x))
-
-  pub seen_busy : b ≡ true → whole ≡ refuse 8
-  seen_busy e = look_refused W m x bad (rest (held (shape_of W m) m x)) p (look_busy W m x hs odd e) refl
-
-  module _ (calm : b ≡ false) {ws : List ℕ} {k : ℕ} {c : Bool} (words : ws ≡ home_words W.ways m.slots h.first h.second)
-      (places : k ≡ length m.items / 4) (damage : c ≡ any (damaged k) ws) where
-    pub seen_damaged : c ≡ true → whole ≡ refuse 4
-    seen_damaged e = look_refused W m x bad (rest (held (shape_of W m) m x)) p (look_damaged W m x hs odd calm words places damage e) refl
-
-    module _ (sound : c ≡ false) {w : ℕ} (hit : w ≡ found_word (first (leads m.items h.tag x) ws)) where
-      pub seen_absent : w ≡ 0 → whole ≡ rest None
-      seen_absent z =
-          let s = look_lacks W m x bad (rest (held (shape_of W m) m x)) p (look_absent W m x hs odd calm words places damage sound hit z) refl in
-          s.0 ∙ ap rest s.1
-
-      pub seen_held : w ≢ 0 → whole ≡ rest (Some (place w))
-      seen_held nz =
-          let s = look_holds W m x bad (rest (held (shape_of W m) m x)) p (look_at W m x hs odd calm words places damage sound hit nz) refl in
-          s.0 ∙ ap rest s.1
+-- the place of a hit lies in the items: no home word is damaged
+pub look_inside : (W : Ways) (s c i : List ℕ) (x : ℕ) {r : Looked} → LooksUp W (mem s c i) x r → {w : ℕ} → r.hit ≡ Ok (Some w)
+    → 4 * (w % 65536) + 4 ≤ length i
+look_inside W s c i x {r} l {w} q =
+    let m = mem s c i in
+    let Y = shape_of W m in
+    let pos : 1 ≤ Y.tag_of x = rw (← l.homes_are.tag_is) l.homes_are.tag_low in
+    hit_reads i (Y.tag_of x) x (own_words W m x) pos (damage_words W m x ∙ sound_whole W m x (own_hit W m x) l.hit_is q) (sound_value W m x (own_hit W m x) l.hit_is q)

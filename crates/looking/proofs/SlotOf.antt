@@ -3,15 +3,16 @@ use Prim.Native.Nat.{ℕ, ◌+◌, ◌*◌, ◌<◌, suc, ◌≤◌}
 use native.Mathlib.Omega.{arith}
 use mathlib.Core.Path.{◌≡◌, refl, sym, ap, ◌∙◌, ap₂}
 use mathlib.Core.Bool.{Bool}
-use Rattle.std.specs.Prelude.{Option, Some, None}
+use Rattle.std.specs.Prelude.{Option, Some, None, unwrap_or}
 use mathlib.Core.List.Memᴰ.{head}
 use mathlib.Core.List.Memᴰ.{tail}
 use mathlib.Core.List.{List, [], ◌∷◌, ◌++◌, Memᴰ as In}
 use lib.ListN.{get_or}
-use lib.Dec.{eqb}
+use lib.Dec.{eqb, ltb}
+use borrow.Author.Tests.{lt-ltb, le-ltb}
+use Rattle.std.specs.Bool.{then_some}
 use Rattle.model.specs.Choice.{choose, first, range}
 use Rattle.model.proofs.ListLaws.{First, bool, first_is, found, in_range, missing}
-use Rattle.looking.specs.Look.{slot_or}
 
 four_slots_of : (a : ℕ) → range a 4 ≡ a ∷ (a + 1) ∷ (a + 2) ∷ (a + 3) ∷ []
 unfolding range
@@ -21,7 +22,11 @@ four_slots_of a =
     let e₃ : suc (suc (suc a)) ≡ a + 3 = omega arith in
     ap₂ (λ (i j : ℕ). a ∷ i ∷ j ∷ suc (suc (suc a)) ∷ []) e₁ e₂ ∙ ap (λ (k : ℕ). a ∷ (a + 1) ∷ (a + 2) ∷ k ∷ []) e₃
 
--- the slot of a word, or another number
+-- the slot that was found, or another number
+abbrev slot_or : ℕ → Option ℕ → ℕ
+slot_or other o = unwrap_or o other
+
+-- the first of two finds
 abbrev or_first : Option ℕ → Option ℕ → Option ℕ
 or_first None o = o
 or_first (Some i) o = Some i
@@ -80,16 +85,9 @@ module _ (T : List ℕ) (w : ℕ) where
         below_both (range (near * 4) 4) (range (far * 4) 4) (λ i q. omega (arith, in_range (near * 4) 4 q))
         λ i q. omega (arith, in_range (far * 4) 4 q)
 
-    pub slot_nowhere : L ≤ r → None ≡ first has both
-    slot_nowhere h = go (first_is has both) slot_is
+    pub slot_there : then_some (ltb r L) r ≡ first has both
+    slot_there = go (first_is has both) slot_is
       where
-        go : {o : Option ℕ} → First has both o → r ≡ slot_or L o → None ≡ o
-        go (missing h) e = refl
-        go (found {i = i} q t) e = absurd (omega (arith, below i q))
-
-    pub slot_somewhere : r < L → Some r ≡ first has both
-    slot_somewhere h = go (first_is has both) slot_is
-      where
-        go : {o : Option ℕ} → First has both o → r ≡ slot_or L o → Some r ≡ o
-        go (missing n) e = absurd (omega arith)
-        go (found {i = i} q t) e = ap Some e
+        go : {o : Option ℕ} → First has both o → r ≡ slot_or L o → then_some (ltb r L) r ≡ o
+        go (missing h) e = rw (le-ltb r L (omega arith))
+        go (found {i = i} q t) e = rw (lt-ltb r L (omega (arith, below i q))) (ap Some e)

@@ -1,38 +1,39 @@
 // What every call about an animal looks at: its home words, judged and compared once, and the slot of a word.
 #![tactic(auto)]
 
-ghost use Rattle.std.specs.Prelude.{◌≡◌, ◌++◌, ◌+◌, ◌*◌, ◌%◌, ◌<◌, ◌≤◌, length, get_or, eqb, true};
+ghost use Rattle.std.specs.Prelude.{◌≡◌, ◌++◌, ◌+◌, ◌*◌, ◌%◌, ◌<◌, ◌≤◌, length, get_or, eqb, true, unwrap_or};
 ghost use Rattle.model.specs.Choice.{choose, first, range};
-ghost use Rattle.model.specs.Memory.{mem};
+ghost use Rattle.model.specs.Seen.{seen};
 ghost use Rattle.model.specs.Shape.{four, good_lengths, right_lengths};
-ghost use Rattle.looking.specs.Look.{due, early, HomesIn, LooksUp, slot_found, slot_or};
+ghost use Rattle.looking.specs.Look.{due, early, HomesIn, LooksHome, LooksUp};
 
 use hashing::Homes;
+use model::{Refusal, Table};
 
-// Refusals 1, 2 and 3, in this order; 0 if none is given.
-pub fn refused_early(s: usize, v: usize, i: usize, animal: u64, bad: bool) -> u32
+// Refusals 1, 2 and 3, in this order.
+#[inline(always)]
+pub fn refused_early(s: usize, v: usize, i: usize, animal: u64, bad: bool) -> Result<(), Refusal>
     ensures { result ≡ early (good_lengths four s v i) animal bad }
 {
-    let good = hashing::lengths_are_good(s, v, i);
-    if !good {
-        return 1;
+    if !hashing::lengths_are_good(s, v, i) {
+        return Err(Refusal::Lengths);
     }
     if animal == 0 {
-        return 2;
+        return Err(Refusal::NoAnimal);
     }
     if bad {
-        return 3;
+        return Err(Refusal::Minutes);
     }
-    0
+    Ok(())
 }
 
 // An animal's tag, buckets and counter in a table of good lengths: the callers have refused any other.
-pub fn homes_in(slots: &[u32], counters: &[u32], items: &[u64], animal: u64) -> Homes
-    requires { right_lengths four (mem slots.now counters.now items.now) ≡ true }
-    ensures { HomesIn four (mem slots.now counters.now items.now) animal result }
+pub fn homes_in(table: &Table, animal: u64) -> Homes
+    requires { right_lengths four (seen table.now) ≡ true }
+    ensures { HomesIn four (seen table.now) animal result }
 {
-    let n = (slots.len() / 4) as u32;
-    let v = counters.len() as u32;
+    let n = (table.slots.len() / 4) as u32;
+    let v = table.counters.len() as u32;
     hashing::homes_of(animal, n, v)
 }
 
@@ -44,96 +45,91 @@ pub fn is_odd(counters: &[u32], c: u32) -> bool
     counters[c as usize] % 2 == 1
 }
 
-// Refusals 1, 2, 3, 8 and 4, in this order; 0 if none is given. For a move, which does not ask whether the animal is held: so without
-// the hit that `look_up` looks for.
-pub fn refused_first(slots: &[u32], counters: &[u32], items: &[u64], animal: u64, bad: bool) -> u32
-    ensures { result ≡ due four (mem slots.now counters.now items.now) animal bad }
-{
-    let no = refused_early(slots.len(), counters.len(), items.len(), animal, bad);
-    if no != 0 {
-        return no;
-    }
-    let homes = homes_in(slots, counters, items, animal);
-    if is_odd(counters, homes.counter) {
-        return 8;
-    }
-    let e = home_words::home_words_of(slots, homes.first, homes.second);
-    let m = (items.len() / 4) as u32;
-    if home_words::any_damaged(e, m) {
-        return 4;
-    }
-    0
-}
-
-// What set, delete, plan and the final store look up: a refusal, nothing, or the word of the hit.
+// An animal's homes, and the words of their slots: refused if the animal is busy, or one of the words damaged.
 #[derive(Clone, Copy)]
-pub enum Look {
-    Refused(u32),
-    Absent,
-    At(u32),
+pub struct Home {
+    pub homes: Homes,
+    pub words: Result<[u32; 8], Refusal>,
 }
 
+// Refusals 8 and 4, in this order. In a table of good lengths: the callers have refused any other.
+#[inline(always)]
+pub fn home_of(table: &Table, animal: u64) -> Home
+    requires { right_lengths four (seen table.now) ≡ true }
+    ensures { LooksHome four (seen table.now) animal result }
+{
+    let homes = homes_in(table, animal);
+    if is_odd(table.counters, homes.counter) {
+        return Home {
+            homes,
+            words: Err(Refusal::Busy),
+        };
+    }
+    let words = home_words::home_words_of(table.slots, homes.first, homes.second);
+    let m = (table.items.len() / 4) as u32;
+    if home_words::any_damaged(words, m) {
+        return Home {
+            homes,
+            words: Err(Refusal::Damaged),
+        };
+    }
+    Home {
+        homes,
+        words: Ok(words),
+    }
+}
+
+// Refusals 1, 2, 3, 8 and 4, in this order. For a move, which does not ask whether the animal is held: so without the hit that `look_up`
+// looks for.
+pub fn refused_first(table: &Table, animal: u64, bad: bool) -> Result<(), Refusal>
+    ensures { result ≡ due four (seen table.now) animal bad }
+{
+    refused_early(
+        table.slots.len(),
+        table.counters.len(),
+        table.items.len(),
+        animal,
+        bad,
+    )?;
+    home_of(table, animal).words?;
+    Ok(())
+}
+
+// What a call about an animal looks up: a refusal, or the word of the hit. The homes are known on a refusal too.
 #[derive(Clone, Copy)]
 pub struct Looked {
-    pub look: Look,
     pub homes: Homes,
+    pub hit: Result<Option<u32>, Refusal>,
 }
 
 // In a table of good lengths: the callers have refused any other.
-pub fn look_up(slots: &[u32], counters: &[u32], items: &[u64], animal: u64) -> Looked
-    requires { right_lengths four (mem slots.now counters.now items.now) ≡ true }
-    ensures { LooksUp four (mem slots.now counters.now items.now) animal result }
+#[inline(always)]
+pub fn look_up(table: &Table, animal: u64) -> Looked
+    requires { right_lengths four (seen table.now) ≡ true }
+    ensures { LooksUp four (seen table.now) animal result }
 {
-    let homes = homes_in(slots, counters, items, animal);
-    if is_odd(counters, homes.counter) {
-        return Looked {
-            look: Look::Refused(8),
-            homes,
-        };
-    }
-    let e = home_words::home_words_of(slots, homes.first, homes.second);
-    let m = (items.len() / 4) as u32;
-    if home_words::any_damaged(e, m) {
-        return Looked {
-            look: Look::Refused(4),
-            homes,
-        };
-    }
-    let sum = home_words::sum_with_tag(e, homes.tag);
-    let w = home_words::hit_word(items, e, homes.tag, animal, sum);
-    if w == 0 {
-        return Looked {
-            look: Look::Absent,
-            homes,
-        };
-    }
-    Looked {
-        look: Look::At(w),
-        homes,
-    }
-}
-
-// A slot that was looked for.
-#[derive(Clone, Copy)]
-pub enum Slot {
-    At(usize),
-    Nowhere,
+    let Home { homes, words } = home_of(table, animal);
+    let hit = match words {
+        Err(refusal) => Err(refusal),
+        Ok(words) => {
+            let sum = home_words::sum_with_tag(words, homes.tag);
+            Ok(home_words::hit_word(table.items, words, homes.tag, animal, sum))
+        }
+    };
+    Looked { homes, hit }
 }
 
 // Slot i if it has the word, else the other number.
 fn slot_if(has: bool, i: usize, other: usize) -> usize
     ensures { result ≡ choose has i other }
 {
-    if has {
-        return i;
-    }
-    other
+    if has { i } else { other }
 }
 
 // The first slot of bucket b with the word w, else the other number. All four are compared and none is branched on: where a word stands can't be foretold.
 fn slot_among(slots: &[u32], b: u32, w: u32, other: usize) -> usize
     requires { b * 4 + 4 ≤ length slots.now }
-    ensures { result ≡ slot_or other (first (λ i. eqb (get_or slots.now i 0) w) (range (b * 4) 4)) }
+    ensures { result ≡ unwrap_or (first (λ i. eqb (get_or slots.now i 0) w) (range (b * 4) 4)) other }
 {
     let at = (b as usize) * 4;
     let last = slot_if(slots[at + 3] == w, at + 3, other);
@@ -143,15 +139,12 @@ fn slot_among(slots: &[u32], b: u32, w: u32, other: usize) -> usize
 }
 
 // The first home slot with a word.
-pub fn slot_of(slots: &[u32], near: u32, far: u32, w: u32) -> Slot
+pub fn slot_of(slots: &[u32], near: u32, far: u32, w: u32) -> Option<usize>
     requires { (near * 4 + 4 ≤ length slots.now) × (far * 4 + 4 ≤ length slots.now) }
-    ensures { slot_found result ≡ first (λ i. eqb (get_or slots.now i 0) w) (range (near * 4) 4 ++ range (far * 4) 4) }
+    ensures { result ≡ first (λ i. eqb (get_or slots.now i 0) w) (range (near * 4) 4 ++ range (far * 4) 4) }
 {
     let nowhere = slots.len();
     let there = slot_among(slots, far, w, nowhere);
     let slot = slot_among(slots, near, w, there);
-    if nowhere <= slot {
-        return Slot::Nowhere;
-    }
-    Slot::At(slot)
+    (slot < nowhere).then_some(slot)
 }

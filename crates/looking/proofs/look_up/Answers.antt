@@ -1,27 +1,8 @@
--- `looking::look_up` meets its contract: one law a way out. Assumes nothing.
-use Rattle.looking.proofs.HomesLie.{places_fit, places_some, places_named}
-use Rattle.looking.proofs.Looking.{look_busy, look_damaged, look_absent, look_at}
-use Rattle.home_words.proofs.Sound.{undamaged}
-use borrow.Author.Rules.{rules}
+-- `looking::look_up` meets its contract. Assumes nothing.
+use Rattle.model.specs.Shape.{four}
+use Rattle.model.specs.Seen.{seen}
+use Rattle.looking.proofs.Looking.{look_sound}
 use Rattle.looking.proofs.look_up.Goals as goal
 
-pub returns-then-is_odd : goal.returns-then-is_odd
-returns-then-is_odd c = search look_busy
-
-pub overflow_cast-m : goal.overflow_cast-m
-overflow_cast-m c = record { fits = search places_fit }
-
-pub any_damaged-requires : goal.any_damaged-requires
-any_damaged-requires c = search (rules, places_some, places_named)
-
-pub returns-then-any_damaged : goal.returns-then-any_damaged
-returns-then-any_damaged c = search look_damaged
-
-pub hit_word-w-requires : goal.hit_word-w-requires
-hit_word-w-requires c = search (rules, undamaged)
-
-pub returns-then-w-eq0 : goal.returns-then-w-eq0
-returns-then-w-eq0 c = search look_absent
-
-pub returns : goal.returns
-returns c = search look_at
+pub hit_word-requires-clause-sound : goal.hit_word-requires-clause-sound
+hit_word-requires-clause-sound c = look_sound four (seen c.args.table.now) c.args.animal c.home_of-words.ensures c.in-Ok.is
