@@ -1,9 +1,12 @@
 -- How long is left, the age of a permission, a law a way out, and the minutes of a set, in the code's own words. Assumes nothing.
-use Rattle.std.proofs.Common.{◌≡◌, ℕ, ◌+◌, ◌-◌, ◌%◌, ◌^◌, ◌<◌, ◌≤◌, Bool, true, false, ◌||◌, eqb, ltb, ◌≢◌, ℤ, pos, negsuc, ◌-ℤ◌, ◌≤ℤ◌, sym, refl, ap, ◌∙◌, ap₂, arith, leb→le, w64, SFits, to_z, of_z, ltb-false}
-use borrow.Author.Tests.{eqb-false}
+use Rattle.std.proofs.Common.{◌≡◌, ℕ, ◌+◌, ◌-◌, ◌%◌, ◌^◌, ◌<◌, ◌≤◌, Bool, true, false, ◌||◌, eqb, ltb, leb, ◌≢◌, ℤ, pos, negsuc, ◌-ℤ◌, ◌≤ℤ◌, sym, refl, ap, ◌∙◌, ap₂, arith, leb→le, w64, SFits, to_z, of_z, ltb-false, le-ltb, lt-ltb, eq-eqb, ne_eqb, le-leb}
+use native.Mathlib.Decide.{ℕ_discrete, dec_le}
+use mathlib.Core.Logic.{dite}
+use borrow.Author.Tests.{eqb-false, lt-leb}
 use mir.ValLaws.{to_z_pos, to_z-of_z}
 use Rattle.model.specs.Answers.{fresh, old}
-use Rattle.model.specs.Age.{bad_time, least_left, left_of, no_minute, retired_mark, verdict}
+use Rattle.model.specs.Age.{bad_grant, bad_time, least_left, left_of, no_minute, retired_mark, verdict}
+use Rattle.model.specs.declared.Grant.{Grant}
 use Rattle.model.proofs.ListLaws.{true_false}
 use Rattle.model.proofs.Left.{bounds, far, near}
 use Rattle.model.proofs.Verdict.{says_old, says_retired, says_young}
@@ -62,3 +65,13 @@ module _ (limit now v s : ℕ) where
 
     pub judged_old : limit < now - s → old (to_z w64 (of_z w64 z)) ≡ verdict limit now v s
     judged_old k = ap old told ∙ says_old limit now v s dated le k
+
+-- the minute behind now: 0 behind the largest number
+pub next_minute : (g : Grant) {n : ℕ} → g.minute < 2 ^ 64 → n ≡ (g.minute + 1) % 2 ^ 64 → leb n g.issued ≡ bad_grant g
+next_minute g {n} h e =
+    dite (ℕ_discrete g.minute no_minute)
+    (λ q. let z : n ≡ 0 = omega arith in rw (z, eq-eqb g.minute no_minute q, le-leb 0 g.issued (omega arith)))
+    λ ne. let s : n ≡ g.minute + 1 = omega arith in
+    dite (dec_le (g.minute + 1) g.issued)
+    (λ l. rw (s, ne_eqb g.minute no_minute ne, le-leb (g.minute + 1) g.issued l, lt-ltb g.minute g.issued (omega arith)))
+    λ l. rw (s, ne_eqb g.minute no_minute ne, lt-leb (g.minute + 1) g.issued (omega arith), le-ltb g.minute g.issued (omega arith))

@@ -1,6 +1,0 @@
--- `boughladder::boughladder_delete` meets its contract. Assumes nothing.
-use Rattle.clothes.proofs.Dressed.{told_whole}
-use Rattle.boughladder.proofs.boughladder_delete.Goals as goal
-
-pub returns : goal.returns
-returns c = search told_whole

@@ -1,6 +1,0 @@
--- `boughladder::boughladder_delete_cut` meets its contract. Assumes nothing.
-use Rattle.clothes.proofs.Dressed.{told_cut}
-use Rattle.boughladder.proofs.boughladder_delete_cut.Goals as goal
-
-pub returns : goal.returns
-returns c = search told_cut
