@@ -13,7 +13,8 @@ pub fn large_buffer() -> [u8; 65536]
     [0; 65536]
 }
 
-// How many bytes of an input stand at the start of the memory, and what the system said if a read failed.
+// How many bytes of an input stand at the start of the memory, and what the system said if a read failed: the bytes before it count too, so
+// this is no Result.
 #[derive(Drop)]
 pub struct Filled {
     pub bytes: usize,
@@ -27,6 +28,7 @@ pub fn fill<R: Read>(from: &mut R, text: &mut [u8]) -> Filled
     ensures ended { IsNone result.failure → result.bytes < length text.new → IsAtEnd (R.remaining from.new) }
 {
     let mut done = 0;
+    // No `for` is plainer: a read goes on by as many bytes as it gives.
     while done < text.len() {
         match from.read(&mut text[done..]) {
             Ok(0) => {
