@@ -1,20 +1,19 @@
 -- A signed number: its size, its digits behind a minus, and that what is printed is read again. Assumes nothing.
-use Prim.Native.Nat.{ℕ, zero, suc, ◌+◌, ◌-◌, ◌≤◌, ◌<◌}
+use Prim.Native.Nat.{ℕ, zero, suc, ◌≤◌, ◌<◌}
 use native.Mathlib.Omega.{arith}
 use native.Mathlib.Nat.{le_of_lt}
-use mathlib.Core.Path.{◌≡◌, refl, sym, ap, subst, ◌∙◌}
+use mathlib.Core.Path.{◌≡◌, refl, sym, ap, subst}
 use mathlib.Core.Logic.{◌≢◌}
 use mathlib.Core.Bool.{true, false}
 use Rattle.std.specs.Prelude.{Some}
 use mathlib.Core.List.{List, []}
 use lib.ListN.{length, get_or}
 use lib.IntN.{ℤ, pos, negsuc, nat_abs}
-use lib.Signed.{◌<ℤ◌, lt_z, nat_abs-le, non_neg}
-use lib.Dec.{T, ltb→lt}
+use lib.Signed.{lt_z}
 use borrow.Author.Tests.{ltb-true}
 use mir.Syntax.{w64}
-use mir.Val.{Fits, SFits, of_z, to_z}
-use mir.ValLaws.{of_z_fits, to_z-Fits, to_z-of_z, to_z_pos}
+use mir.Val.{SFits, of_z, to_z}
+use mir.ValLaws.{to_z-of_z}
 use Rattle.buffer.specs.Put.{Put}
 use Rattle.buffer.proofs.Putting.{put_both}
 use Rattle.replay_words.specs.Words.{negative, signed}
@@ -24,50 +23,17 @@ use Rattle.model.proofs.ListLaws.{inside_held, true_false}
 use Rattle.replay_print.specs.Print.{decimal_of, line, signed_line, signed_of}
 use Rattle.replay_print.proofs.Printing.{no_zero_in_front, printed_is_read}
 
--- the bits of a negative number turned over are its size less one
-module _ (z : ℤ) (f : SFits w64 z) (h : z <ℤ pos 0) where
-  turned : to_z w64 (18446744073709551615 - of_z w64 z) ≡ pos (nat_abs z - 1)
-  turned = go z f h
-    where
-      go : (z : ℤ) → SFits w64 z → z <ℤ pos 0 → to_z w64 (18446744073709551615 - of_z w64 z) ≡ pos (nat_abs z - 1)
-      go (pos n) f h = let l : n < 0 = ltb→lt n 0 h.lt in absurd (omega arith)
-      go (negsuc k) f h =
-          let e : 18446744073709551615 - (18446744073709551616 - suc k) ≡ k = omega (arith, f.sfits) in
-          ap (to_z w64) e ∙ to_z_pos w64 k f.sfits ∙ ap pos (omega arith)
-
-  sized : (0 < nat_abs z) × (nat_abs z ≤ 9223372036854775808)
-  sized = (go z h, nat_abs-le z f.sfits)
-    where
-      go : (z : ℤ) → z <ℤ pos 0 → 0 < nat_abs z
-      go (pos n) h = let l : n < 0 = ltb→lt n 0 h.lt in absurd (omega arith)
-      go (negsuc k) h = omega arith
-
-  pub size_cast : T (non_neg (to_z w64 (18446744073709551615 - of_z w64 z))) × Fits w64 (nat_abs (to_z w64 (18446744073709551615 - of_z w64 z)))
-  size_cast = subst (λ (y : ℤ). T (non_neg y) × Fits w64 (nat_abs y)) (sym turned) (tt, record { fits = omega (arith, sized.1) })
-
-  pub size_is : nat_abs (to_z w64 (18446744073709551615 - of_z w64 z)) + 1 ≡ nat_abs z
-  size_is = ap (λ (y : ℤ). nat_abs y + 1) turned ∙ omega (arith, sized.0)
-
-  pub size_fits : Fits w64 (nat_abs (to_z w64 (18446744073709551615 - of_z w64 z)) + 1)
-  size_fits = record { fits = omega (arith, size_is, sized.1) }
-
 -- a number as the code holds it, by its bits: a minus and the digits of a negative one, the digits of any other
 module _ (z : ℤ) (f : SFits w64 z) where
   abbrev held : ℤ
   held = to_z w64 (of_z w64 z)
 
-  module _ (h : lt_z held (pos 0) ≡ false) where
-    not_below : (y : ℤ) → lt_z y (pos 0) ≡ false → T (non_neg y)
-    not_below (pos n) h = tt
-    not_below (negsuc n) h = true_false refl h
-
-    pub whole_cast : T (non_neg held) × Fits w64 (nat_abs held)
-    whole_cast = (not_below held h, record { fits = omega (arith, nat_abs-le held (to_z-Fits w64 (of_z w64 z) (of_z_fits w64 z f)).sfits) })
-
   module _ {at r : ℕ} {before after : List ℕ} where
-    pub put_whole : lt_z held (pos 0) ≡ false → Put (decimal_of (nat_abs held)) at before after r → Put (signed_of z) at before after r
+    pub put_whole : {n : ℕ} → lt_z held (pos 0) ≡ false → n ≡ nat_abs held → Put (decimal_of n) at before after r → Put (signed_of z) at before after r
     unfolding signed_of
-    put_whole h d = subst (λ (y : ℤ). Put (signed_of y) at before after r) (to_z-of_z w64 z f) (go held h d)
+    put_whole h e d =
+        subst (λ (y : ℤ). Put (signed_of y) at before after r) (to_z-of_z w64 z f)
+        (go held h (subst (λ (n : ℕ). Put (decimal_of n) at before after r) e d))
       where
         go : (y : ℤ) → lt_z y (pos 0) ≡ false → Put (decimal_of (nat_abs y)) at before after r → Put (signed_of y) at before after r
         go (pos n) h d = d

@@ -1,9 +1,12 @@
 // What the replay program prints, in bytes: numbers, lines of words and numbers, records. Each function writes from `at` on and gives the position behind.
+// By hand and not by `format!`, which allocates: the program has no heap. Buffer and position stay two parameters, as in `buffer`.
 #![tactic(auto)]
 
-ghost use Rattle.std.specs.Prelude.{◌≡◌, ◌+◌, ◌*◌, ◌%◌, ◌<◌, ◌≤◌, [], length, pos, nat_abs, ◌<ℤ◌};
+ghost use Rattle.std.specs.Prelude.{◌≡◌, ◌+◌, ◌*◌, ◌%◌, ◌<◌, ◌≤◌, [], length};
 ghost use Rattle.buffer.specs.Put.{Put};
 ghost use Rattle.replay_print.specs.Print.{decimal_of, signed_of, hex_digit, hex_of, line, numbered, told, signed_line, hexes, record_lines};
+
+use replay_words::RunWord;
 
 // The last decimal digit of a number.
 fn digit(x: u64) -> u8
@@ -12,7 +15,8 @@ fn digit(x: u64) -> u8
     b'0' + (x % 10) as u8
 }
 
-// The digits of a number from `at` on; the position behind them. They come last digit first, so they are collected from the end.
+// The digits of a number from `at` on; the position behind them. They come last digit first, so they are collected from the end:
+// no range or chain gives how many there are.
 pub fn put_decimal(buffer: &mut [u8], at: usize, x: u64) -> usize
     requires { at + 20 ≤ length buffer.old }
     ensures { Put (decimal_of x) at buffer.old buffer.new result × (result ≤ at + 20) }
@@ -31,24 +35,17 @@ pub fn put_decimal(buffer: &mut [u8], at: usize, x: u64) -> usize
     buffer::put_bytes(buffer, at, &digits[first..])
 }
 
-// The size of a negative number: its bits turned over, and one more, so that the least number has one too.
-fn size(z: i64) -> u64
-    requires { z <ℤ pos 0 }
-    ensures { result ≡ nat_abs z }
-{
-    (!z) as u64 + 1
-}
-
 // A signed number from `at` on; the position behind it.
 fn put_signed(buffer: &mut [u8], at: usize, z: i64) -> usize
     requires { at + 21 ≤ length buffer.old }
     ensures { Put (signed_of z) at buffer.old buffer.new result × (result ≤ at + 21) }
 {
+    let size = z.unsigned_abs();
     if z < 0 {
         let behind = buffer::put_bytes(buffer, at, b"-");
-        return put_decimal(buffer, behind, size(z));
+        return put_decimal(buffer, behind, size);
     }
-    put_decimal(buffer, at, z as u64)
+    put_decimal(buffer, at, size)
 }
 
 fn hex_digit(n: u8) -> u8
@@ -91,55 +88,25 @@ pub fn put_numbered(buffer: &mut [u8], at: usize, word: &[u8], n: u64) -> usize
 }
 
 // Numbers behind a word, each with its space, and the line's end.
-fn put_numbers(buffer: &mut [u8], at: usize, numbers: &[u64]) -> usize
+fn put_numbers<T: RunWord>(buffer: &mut [u8], at: usize, numbers: &[T]) -> usize
     requires { at + 21 * length numbers.now + 1 ≤ length buffer.old }
-    ensures { Put (told [] numbers.now) at buffer.old buffer.new result × (result ≤ at + 21 * length numbers.now + 1) }
+    ensures { Put (told [] (T.numbers numbers.now)) at buffer.old buffer.new result × (result ≤ at + 21 * length numbers.now + 1) }
 {
     let mut next = at;
-    let mut i: usize = 0;
-    while i < numbers.len() {
-        next = put_numbered(buffer, next, b"", numbers[i]);
-        i += 1;
-    }
-    put_line(buffer, next, b"")
-}
-
-fn wide(x: u32) -> u64
-    ensures { result ≡ x }
-{
-    x as u64
-}
-
-fn put_numbers32(buffer: &mut [u8], at: usize, numbers: &[u32]) -> usize
-    requires { at + 21 * length numbers.now + 1 ≤ length buffer.old }
-    ensures { Put (told [] numbers.now) at buffer.old buffer.new result × (result ≤ at + 21 * length numbers.now + 1) }
-{
-    let mut next = at;
-    let mut i: usize = 0;
-    while i < numbers.len() {
-        next = put_numbered(buffer, next, b"", wide(numbers[i]));
-        i += 1;
+    for n in numbers {
+        next = put_numbered(buffer, next, b"", n.number());
     }
     put_line(buffer, next, b"")
 }
 
 // A line of a word and its numbers.
-pub fn put_told(buffer: &mut [u8], at: usize, word: &[u8], numbers: &[u64]) -> usize
+pub fn put_told<T: RunWord>(buffer: &mut [u8], at: usize, word: &[u8], numbers: &[T]) -> usize
     requires { at + length word.now + 21 * length numbers.now + 1 ≤ length buffer.old }
-    ensures { Put (told word.now numbers.now) at buffer.old buffer.new result
+    ensures { Put (told word.now (T.numbers numbers.now)) at buffer.old buffer.new result
         × (result ≤ at + length word.now + 21 * length numbers.now + 1) }
 {
     let behind = buffer::put_bytes(buffer, at, word);
     put_numbers(buffer, behind, numbers)
-}
-
-pub fn put_told32(buffer: &mut [u8], at: usize, word: &[u8], numbers: &[u32]) -> usize
-    requires { at + length word.now + 21 * length numbers.now + 1 ≤ length buffer.old }
-    ensures { Put (told word.now numbers.now) at buffer.old buffer.new result
-        × (result ≤ at + length word.now + 21 * length numbers.now + 1) }
-{
-    let behind = buffer::put_bytes(buffer, at, word);
-    put_numbers32(buffer, behind, numbers)
 }
 
 // A line of words and a signed number.
@@ -160,10 +127,8 @@ fn put_record(buffer: &mut [u8], at: usize, bytes: &[u8]) -> usize
     ensures value { result ≡ at + 2 * length bytes.now + 1 }
 {
     let mut next = at;
-    let mut i: usize = 0;
-    while i < bytes.len() {
-        next = put_hex_byte(buffer, next, bytes[i]);
-        i += 1;
+    for b in bytes {
+        next = put_hex_byte(buffer, next, *b);
     }
     put_line(buffer, next, b"")
 }
@@ -175,12 +140,10 @@ pub fn put_records(buffer: &mut [u8], at: usize, n: usize, records: &[u8]) -> us
     ensures { Put (record_lines n records.now) at buffer.old buffer.new result × (result ≤ at + 41 * n) }
 {
     let mut next = at;
-    let mut i: usize = 0;
-    while i < n {
+    for i in 0..n {
         let from = 20 * i;
         let end = from + 20;
         next = put_record(buffer, next, &records[from..end]);
-        i += 1;
     }
     next
 }

@@ -1,3 +1,4 @@
 pub mod Scan
 pub mod OneWord
 pub mod SignedWord
+pub mod RunWords

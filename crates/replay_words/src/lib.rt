@@ -1,11 +1,11 @@
 // The words and numbers of a line of the replay program. No input or output.
 #![tactic(auto)]
 
-ghost use Rattle.std.specs.Prelude.{not, eqb, ◌≡◌, ◌+◌, ◌<◌, ◌≤◌, length};
+ghost use Rattle.std.specs.Prelude.{ℕ, not, eqb, ◌≡◌, ◌+◌, ◌<◌, ◌≤◌, List, [], ◌∷◌, length, refl};
 ghost use Rattle.std.specs.List.{prefix_len};
 ghost use Rattle.std.specs.Iterator.{YieldsFirstRef, item_count};
 ghost use Rattle.model.specs.Choice.{choose};
-ghost use Rattle.replay_words.specs.Words.{before, is_end, is_comment, is_gap, is_no_gap, lines, mark_length, same, all_digits, number, signed, whole, negative, words};
+ghost use Rattle.replay_words.specs.Words.{is_end, is_comment, is_gap, is_no_gap, lines, mark_length, same, all_digits, number, signed, whole, negative, words};
 ghost use Rattle.replay_words.specs.Cursor.{First, PieceAt, NextWord, Small};
 
 // Where a line ends, and where the next one starts.
@@ -190,5 +190,71 @@ pub fn signed_of(word: &[u8], top: u64) -> Option<i64>
     match word.strip_prefix(b"-") {
         Some(size) => with_sign(number_of(size, top), true),
         None => with_sign(number_of(word, top), false),
+    }
+}
+
+// A word of a run, of 32 bits in slots and counters and of 64 in items, and the number that a line shows it as.
+pub trait RunWord: Copy {
+    ghost number: { Self → ℕ };
+
+    ghost numbers: { List Self → List ℕ };
+
+    ghost LARGEST: { ℕ };
+
+    const LARGEST: u64;
+
+    fn number(self) -> u64
+        ensures { result ≡ number self };
+
+    fn of_number(n: u64) -> Self
+        requires { n ≤ LARGEST }
+        ensures { number result ≡ n };
+
+    ghost of_none: { numbers [] ≡ [] };
+
+    ghost of_more: { (x : Self) (xs : List Self) → numbers (x ∷ xs) ≡ number x ∷ numbers xs };
+}
+
+impl RunWord for u32 {
+    ghost number = { λ n. n };
+
+    ghost numbers = { λ ns. ns };
+
+    ghost LARGEST = { 4294967295 };
+
+    const LARGEST: u64 = 4294967295;
+
+    ghost of_none = { refl };
+
+    ghost of_more = { λ x xs. refl };
+
+    fn number(self) -> u64 {
+        u64::from(self)
+    }
+
+    fn of_number(n: u64) -> u32 {
+        n as u32
+    }
+}
+
+impl RunWord for u64 {
+    ghost number = { λ n. n };
+
+    ghost numbers = { λ ns. ns };
+
+    ghost LARGEST = { 18446744073709551615 };
+
+    const LARGEST: u64 = 18446744073709551615;
+
+    ghost of_none = { refl };
+
+    ghost of_more = { λ x xs. refl };
+
+    fn number(self) -> u64 {
+        self
+    }
+
+    fn of_number(n: u64) -> u64 {
+        n
     }
 }

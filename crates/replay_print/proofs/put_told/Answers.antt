@@ -4,4 +4,4 @@ use borrow.Author.Rules.{rules}
 use Rattle.replay_print.proofs.put_told.Goals as goal
 
 pub returns : goal.returns
-returns c = (search put_behind, search rules)
+returns g c = (search put_behind, search rules)
