@@ -5,7 +5,7 @@ use native.Mathlib.Decide.{ℕ_discrete}
 use mathlib.Core.Path.{◌≡◌, refl, sym, ap, ◌∙◌, ap₂}
 use mathlib.Core.Logic.{dite}
 use mathlib.Core.Bool.{Bool, true, false, not}
-use Rattle.std.specs.Prelude.{Option, Some}
+use Rattle.std.specs.Prelude.{Option, Some, None, Ok, Err}
 use mathlib.Core.List.{List, ◌++◌}
 use lib.ListN.{length, get_or}
 use lib.Dec.{eqb}
@@ -15,23 +15,20 @@ use Rattle.model.specs.Memory.{Mem, damaged, place, tag, word}
 use Rattle.model.specs.Shape.{Ways, good_lengths, homes, right_lengths, shape_of}
 use Rattle.model.specs.Calling.{evict}
 use Rattle.model.specs.Clock.{Victim, victim}
-use Rattle.model.specs.Calls.{Outcome, call, evict_animal, evict_at, evict_slot, home_damage, refuse, slot_of, some_live}
+use Rattle.model.specs.Calls.{Outcome, busy, call, evict_animal, evict_at, evict_slot, home_damage, refuse, slot_of, some_live}
 use Rattle.model.specs.Lent.{lent_call}
 use Rattle.model.proofs.ListLaws.{both_no, both_yes, first_same}
 use Rattle.model.proofs.Lent.{fit}
-use Rattle.home_words.specs.HomeWords.{home_words}
-use Rattle.looking.specs.Look.{HomesIn, slot_found}
-use Rattle.looking.proofs.OwnWords.{damage_is, odd_is}
+use Rattle.model.specs.Said.{refusal_number}
+use Rattle.model.specs.declared.Refusal.{Refusal}
+use Rattle.model.specs.declared.Refusal.TheVariants as refusal
+use Rattle.looking.specs.Look.{LooksHome, own_words}
+use Rattle.looking.proofs.Looking.{sound_calm, sound_refused}
+use Rattle.looking.specs.declared.Home.{Home}
 use Rattle.places.specs.Walks.{scanned}
-use Rattle.places.proofs.Found.{scan_empty, scan_live, scan_within}
-use Rattle.aiming.specs.Aiming.{Aimed, Aims, AimsAt, Handed, Readies, Turns, aiming, places_in}
-use Rattle.hashing.specs.declared.Homes.{Homes}
-use Rattle.looking.specs.declared.Slot.{Slot}
-use Rattle.looking.specs.declared.Slot.TheVariants as slot
-use Rattle.places.specs.declared.Scan.{Scan}
-use Rattle.places.specs.declared.Scan.TheVariants as scan
-use Rattle.aiming.specs.declared.Aim.{Aim}
-use Rattle.aiming.specs.declared.Aim.TheVariants as aim
+use Rattle.places.proofs.Found.{Within, scan_empty, scan_live, scan_within}
+use Rattle.places.specs.declared.Victim.{Victim as Found}
+use Rattle.aiming.specs.Aiming.{Aim, Aimed, Aims, AimsAt, Handed, Readies, Turns, aiming, places_in}
 
 -- a word has a tag and a place exactly if it is made of them
 word_test : (w t p : ℕ) → p < 65536 → choose (eqb (tag w) t) (eqb (place w) p) false ≡ eqb w (t * 65536 + p)
@@ -52,66 +49,46 @@ slot_by_word W m x p h =
     (λ i. eqb (word m i) ((shape_of W m).tag_of x * 65536 + p)) (λ i. word_test (word m i) ((shape_of W m).tag_of x) p h) (homes (shape_of W m) x)
 
 -- the refusals of the victim in place p, animal x, and its slot
-module _ (W : Ways) (m : Mem) (p n : ℕ) {x : ℕ} {h : Homes} {b : Bool} (a : Aimed W m p) (number : x ≡ get_or m.items (4 * p) 0) (hs : HomesIn W m x h)
-    (odd : b ≡ eqb (get_or m.counters h.counter 0 % 2) 1) where
+module _ (W : Ways) (m : Mem) (p n : ℕ) {x : ℕ} {h : Home} (a : Aimed W m p) (number : x ≡ get_or m.items (4 * p) 0) (l : LooksHome W m x h) where
   abbrev the_victim : Victim
   the_victim = record { place = p; looked = n }
 
   abbrev slot_due : ℕ → Outcome
   slot_due hand = evict_slot (shape_of W m) m hand the_victim x (slot_of (shape_of W m) m x p)
 
-  in_turn : (hand : ℕ) → evict_at (shape_of W m) m hand (Some the_victim) ≡ choose b (refuse 8) (choose (home_damage (shape_of W m) m x) (refuse 4) (slot_due hand))
-  in_turn hand =
-      ap (evict_animal (shape_of W m) m hand the_victim) (sym number)
-      ∙ ap (λ z. choose z (refuse 8) (choose (home_damage (shape_of W m) m x) (refuse 4) (slot_due hand)))
-      (sym (odd_is W m x hs odd))
+  in_turn : (hand : ℕ) → evict_at (shape_of W m) m hand (Some the_victim)
+      ≡ choose (busy (shape_of W m) m x) (refuse 8) (choose (home_damage (shape_of W m) m x) (refuse 4) (slot_due hand))
+  in_turn hand = ap (evict_animal (shape_of W m) m hand the_victim) (sym number)
 
-  pub aim_busy : b ≡ true → AimsAt W m p n (aim.Refused 8)
-  aim_busy e =
-      record {
-        comes = λ hand. sym (in_turn hand ∙ ap (λ z. choose z (refuse 8) (choose (home_damage (shape_of W m) m x) (refuse 4) (slot_due hand))) e);
-        aims = tt;
-      }
+  pub aim_refused : {r : Refusal} → h.words ≡ Err r → AimsAt W m p n (Err r)
+  aim_refused q =
+      record { comes = λ hand. sym (in_turn hand ∙ sound_refused W m x (own_words W m x) l.words_are q (slot_due hand)); aims = tt }
 
-  module _ (calm : b ≡ false) {ws : List ℕ} {k : ℕ} {c : Bool} (words : ws ≡ home_words W.ways m.slots h.first h.second)
-      (places : k ≡ length m.items / 4) (damage : c ≡ any (damaged k) ws) where
-    past_busy : (hand : ℕ) → evict_at (shape_of W m) m hand (Some the_victim) ≡ choose c (refuse 4) (slot_due hand)
-    past_busy hand =
-        in_turn hand ∙ ap (λ z. choose z (refuse 8) (choose (home_damage (shape_of W m) m x) (refuse 4) (slot_due hand))) calm
-        ∙ ap (λ z. choose z (refuse 4) (slot_due hand)) (sym (damage_is W m x hs words places damage))
+  module _ {ws : List ℕ} (calm : h.words ≡ Ok ws) {o : Option ℕ}
+      (found : o ≡ first (λ i. eqb (get_or m.slots i 0) (h.homes.tag * 65536 + p)) (range (h.homes.first * W.ways) W.ways ++ range (h.homes.second * W.ways) W.ways)) where
+    slot_is : o ≡ slot_of (shape_of W m) m x p
+    slot_is =
+        found
+        ∙ ap (λ t. first (λ i. eqb (get_or m.slots i 0) (t * 65536 + p)) (range (h.homes.first * W.ways) W.ways ++ range (h.homes.second * W.ways) W.ways)) l.homes_are.tag_is
+        ∙ ap₂ (λ (f g : ℕ). first (λ i. eqb (get_or m.slots i 0) ((shape_of W m).tag_of x * 65536 + p)) (range (f * W.ways) W.ways ++ range (g * W.ways) W.ways))
+        l.homes_are.first_is l.homes_are.second_is
+        ∙ sym (slot_by_word W m x p (omega (arith, a.below, a.few)))
 
-    pub aim_hurt : c ≡ true → AimsAt W m p n (aim.Refused 4)
-    aim_hurt e = record { comes = λ hand. sym (past_busy hand ∙ ap (λ z. choose z (refuse 4) (slot_due hand)) e); aims = tt }
+    past_look : (hand : ℕ) → evict_at (shape_of W m) m hand (Some the_victim) ≡ evict_slot (shape_of W m) m hand the_victim x o
+    past_look hand =
+        in_turn hand ∙ sound_calm W m x (own_words W m x) l.words_are calm (slot_due hand)
+        ∙ ap (evict_slot (shape_of W m) m hand the_victim x) (sym slot_is)
 
-    module _ (sound : c ≡ false) where
-      abbrev slot_seen : Option ℕ
-      slot_seen = first (λ i. eqb (get_or m.slots i 0) (h.tag * 65536 + p)) (range (h.first * W.ways) W.ways ++ range (h.second * W.ways) W.ways)
+    pub aim_nowhere : o ≡ None → AimsAt W m p n (Err refusal.Damaged)
+    aim_nowhere q = record { comes = λ hand. sym (past_look hand ∙ ap (evict_slot (shape_of W m) m hand the_victim x) q); aims = tt }
 
-      slot_is : slot_of (shape_of W m) m x p ≡ slot_seen
-      slot_is =
-          slot_by_word W m x p (omega (arith, a.below, a.few))
-          ∙ sym (ap (λ t. first (λ i. eqb (get_or m.slots i 0) (t * 65536 + p)) (range (h.first * W.ways) W.ways ++ range (h.second * W.ways) W.ways)) hs.tag_is
-          ∙ ap₂ (λ (f g : ℕ). first (λ i. eqb (get_or m.slots i 0) ((shape_of W m).tag_of x * 65536 + p)) (range (f * W.ways) W.ways ++ range (g * W.ways) W.ways))
-          hs.first_is hs.second_is)
-
-      past_hurt : (hand : ℕ) → evict_at (shape_of W m) m hand (Some the_victim) ≡ evict_slot (shape_of W m) m hand the_victim x slot_seen
-      past_hurt hand =
-          past_busy hand ∙ ap (λ z. choose z (refuse 4) (slot_due hand)) sound ∙ ap (evict_slot (shape_of W m) m hand the_victim x) slot_is
-
-      module _ {s : Slot} (seen : slot_found s ≡ slot_seen) where
-        pub aim_nowhere : s ≡ slot.Nowhere → AimsAt W m p n (aim.Refused 4)
-        aim_nowhere e =
-            record { comes = λ hand. sym (past_hurt hand ∙ ap (evict_slot (shape_of W m) m hand the_victim x) (sym seen ∙ ap slot_found e)); aims = tt }
-
-        pub aim_takes : {i : ℕ} → s ≡ slot.At i
-            → AimsAt W m p n (aim.Takes (record { animal = x; place = p; looked = n; counter = h.counter; slot = i }))
-        aim_takes {i} e =
-            record {
-              comes = λ hand. sym (past_hurt hand ∙ ap (evict_slot (shape_of W m) m hand the_victim x) (sym seen ∙ ap slot_found e)
-                  ∙ ap (λ c. aiming m hand (aim.Takes (record { animal = x; place = p; looked = n; counter = c; slot = i })))
-                  (sym hs.counter_is));
-              aims = (refl, refl);
-            }
+    pub aim_takes : {i : ℕ} → o ≡ Some i → AimsAt W m p n (Ok (record { animal = x; place = p; looked = n; counter = h.homes.counter; slot = i }))
+    aim_takes {i} q =
+        record {
+          comes = λ hand. sym (past_look hand ∙ ap (evict_slot (shape_of W m) m hand the_victim x) q
+              ∙ ap (λ c. aiming m hand (Ok (record { animal = x; place = p; looked = n; counter = c; slot = i }))) (sym l.homes_are.counter_is));
+          aims = (refl, refl);
+        }
 
 -- refusal 1
 module _ (W : Ways) (m : Mem) (hand : ℕ) {g : Bool}
@@ -119,14 +96,14 @@ module _ (W : Ways) (m : Mem) (hand : ℕ) {g : Bool}
   abbrev call_due : Outcome
   call_due = call (shape_of W m) m (evict hand)
 
-  pub turn_lengths : not g ≡ true → Turns W m hand (aim.Refused 1)
+  pub turn_lengths : not g ≡ true → Turns W m hand (Err refusal.Lengths)
   turn_lengths e = record { comes = sym (ap (λ z. choose z call_due (refuse 1)) (sym good ∙ not-true g e)); readies = tt }
 
   module _ (e : not g ≡ false) where
     right : right_lengths W m ≡ true
     right = sym good ∙ not-false g e
 
-    pub turn_hand : places_in m ≤ hand → Turns W m hand (aim.Refused 1)
+    pub turn_hand : places_in m ≤ hand → Turns W m hand (Err refusal.Lengths)
     turn_hand q =
         let o = evict_at (shape_of W m) m hand (victim (places_in m) m.items hand) in
         record {
@@ -140,11 +117,6 @@ module _ (W : Ways) (m : Mem) (hand : ℕ) {g : Bool}
         let f = fit W m right in
         record { lengths = right; few = f.few; four_each = f.items_fit; below = q }
 
--- a victim's place fits 32 bits
-pub scan_small : (M : ℕ) (l : List ℕ) (hand : ℕ) {s : Scan} {p n : ℕ} → M ≤ 4096 → hand < M → scanned s ≡ victim M l hand → s ≡ scan.Victim p n
-    → p < 4294967296
-scan_small M l hand few below seen taken = omega (arith, (scan_within M l hand seen below taken).below)
-
 -- refusal 7, and the refusals of the victim
 module _ (W : Ways) (m : Mem) (hand : ℕ) (h : Handed W m hand) where
   abbrev live_due : Outcome
@@ -156,30 +128,35 @@ module _ (W : Ways) (m : Mem) (hand : ℕ) (h : Handed W m hand) where
       ∙ ap (λ z. choose z (refuse 1) (choose (some_live (places_in m) m.items) live_due (refuse 7))) (lt-leb (places_in m) hand h.below)
       ∙ ap (λ z. choose z live_due (refuse 7)) lives
 
-  module _ {s : Scan} (seen : scanned s ≡ victim (places_in m) m.items hand) where
-    pub turn_nobody : s ≡ scan.Nobody → Turns W m hand (aim.Refused 7)
+  module _ {s : Option Found} (seen : scanned s ≡ victim (places_in m) m.items hand) where
+    pub turn_nobody : s ≡ None → Turns W m hand (Err refusal.Absent)
     turn_nobody q = record { comes = sym (past_hand (scan_empty (places_in m) m.items hand seen h.below q)); readies = tt }
 
-    module _ {p n : ℕ} (taken : s ≡ scan.Victim p n) where
-      pub turn_aimed : Aimed W m p
-      turn_aimed =
-          record { lengths = h.lengths; few = h.few; below = (scan_within (places_in m) m.items hand seen h.below taken).below }
+    module _ {v : Found} (is_taken : s ≡ Some v) where
+      there : Within (places_in m) m.items (record { place = v.place; looked = v.looked })
+      there = scan_within (places_in m) m.items hand seen h.below is_taken
 
-      pub turn_found : {r : Aim} → AimsAt W m p n r → Turns W m hand r
+      -- its place fits 32 bits
+      pub turn_small : v.place < 4294967296
+      turn_small = omega (arith, there.below, h.few)
+
+      pub turn_aimed : Aimed W m v.place
+      turn_aimed = record { lengths = h.lengths; few = h.few; below = there.below }
+
+      pub turn_found : {r : Aim} → AimsAt W m v.place v.looked r → Turns W m hand r
       turn_found {r} d =
           record {
-            comes = sym (past_hand (scan_live (places_in m) m.items hand seen h.below taken)
-                ∙ ap (evict_at (shape_of W m) m hand) (sym seen ∙ ap scanned taken) ∙ sym (d.comes hand));
+            comes = sym (past_hand (scan_live (places_in m) m.items hand seen h.below is_taken)
+                ∙ ap (evict_at (shape_of W m) m hand) (sym seen ∙ ap scanned is_taken) ∙ sym (d.comes hand));
             readies = ready r d.aims;
           }
         where
-          ready : (r : Aim) → Aims p n r → Readies m hand r
-          ready (aim.Refused k) q = tt
-          ready (aim.Takes t) q =
-              let w = scan_within (places_in m) m.items hand seen h.below taken in
+          ready : (r : Aim) → Aims v.place v.looked r → Readies m hand r
+          ready (Err k) q = tt
+          ready (Ok t) q =
               record {
                 four_each = h.four_each;
                 hand_below = h.below;
-                place_below = rw q.0 w.below;
-                looked_some = rw q.1 w.looked_some;
+                place_below = rw q.0 there.below;
+                looked_some = rw q.1 there.looked_some;
               }

@@ -1,5 +1,5 @@
 -- What evict's look has found out, as an outcome; and what its steps take. Assumes nothing.
-use Rattle.std.specs.Prelude.{ℕ, ◌+◌, ◌*◌, ◌<◌, ◌≤◌, ◌-◌, ◌%◌, ◌/◌, min, ◌≡◌, true, List, [], ◌∷◌, ◌++◌, length, Some}
+use Rattle.std.specs.Prelude.{ℕ, ◌+◌, ◌*◌, ◌<◌, ◌≤◌, ◌-◌, ◌%◌, ◌/◌, min, ◌≡◌, true, List, [], ◌∷◌, ◌++◌, length, Some, Result, Ok, Err}
 use Rattle.model.specs.Memory.{Mem}
 use Rattle.model.specs.Shape.{Ways, right_lengths, shape_of}
 use Rattle.model.specs.Stores.{remove}
@@ -8,9 +8,13 @@ use Rattle.model.specs.Calling.{evict}
 use Rattle.model.specs.Clock.{passed_recent}
 use Rattle.model.specs.Calls.{Outcome, clear_blocks, evict_at, refuse}
 use Rattle.model.specs.Lent.{lent_call}
+use Rattle.model.specs.Said.{refusal_number}
+use Rattle.model.specs.declared.Refusal.{Refusal}
 use Rattle.aiming.specs.declared.Target.{Target}
-use Rattle.aiming.specs.declared.Aim.{Aim}
-use Rattle.aiming.specs.declared.Aim.TheVariants as aim
+
+-- what the look gives: a refusal, or whom evict is to take
+abbrev pub Aim : Type 0
+Aim = Result Target Refusal
 
 -- how many places the lent memory has
 abbrev pub places_in : Mem → ℕ
@@ -22,8 +26,8 @@ passed_by m hand t = passed_recent (places_in m) m.items (min (t.looked - 1) (pl
 
 -- the clears, and then the target goes
 abbrev pub aiming : Mem → ℕ → Aim → Outcome
-aiming m hand (aim.Refused n) = refuse n
-aiming m hand (aim.Takes t) =
+aiming m hand (Err r) = refuse (refusal_number r)
+aiming m hand (Ok t) =
     record {
       answer = evicted t.animal t.looked ((t.place + 1) % places_in m);
       blocks = clear_blocks (passed_by m hand t) ++ (remove t.counter t.slot t.place ∷ []);
@@ -37,13 +41,13 @@ pub record Ready (m : Mem) (hand : ℕ) (t : Target) : Type 0 where
   pub looked_some : 1 ≤ t.looked
 
 abbrev pub Readies : Mem → ℕ → Aim → Type 0
-Readies m hand (aim.Refused n) = Unit {0}
-Readies m hand (aim.Takes t) = Ready m hand t
+Readies m hand (Err r) = Unit {0}
+Readies m hand (Ok t) = Ready m hand t
 
 -- an aim at the victim in place p, found after n places
 abbrev pub Aims : ℕ → ℕ → Aim → Type 0
-Aims p n (aim.Refused k) = Unit {0}
-Aims p n (aim.Takes t) = (t.place ≡ p) × (t.looked ≡ n)
+Aims p n (Err r) = Unit {0}
+Aims p n (Ok t) = (t.place ≡ p) × (t.looked ≡ n)
 
 module _ (W : Ways) where
   -- the lengths are good, and p is a place
