@@ -10,8 +10,8 @@ use mathlib.Core.List.{List, ◌++◌}
 use lib.ListN.{length, get_or}
 use lib.Dec.{eqb}
 use borrow.Author.Tests.{eq-eqb, ne_eqb, le-leb, lt-leb, not-true, not-false}
-use Rattle.model.specs.Choice.{any, choose, first, range}
-use Rattle.model.specs.Memory.{Mem, damaged, place, tag, word}
+use Rattle.model.specs.Choice.{choose, first, range}
+use Rattle.model.specs.Memory.{Mem, place, tag, word}
 use Rattle.model.specs.Shape.{Ways, good_lengths, homes, right_lengths, shape_of}
 use Rattle.model.specs.Calling.{evict}
 use Rattle.model.specs.Clock.{Victim, victim}
@@ -19,7 +19,6 @@ use Rattle.model.specs.Calls.{Outcome, busy, call, evict_animal, evict_at, evict
 use Rattle.model.specs.Lent.{lent_call}
 use Rattle.model.proofs.ListLaws.{both_no, both_yes, first_same}
 use Rattle.model.proofs.Lent.{fit}
-use Rattle.model.specs.Said.{refusal_number}
 use Rattle.model.specs.declared.Refusal.{Refusal}
 use Rattle.model.specs.declared.Refusal.TheVariants as refusal
 use Rattle.looking.specs.Look.{LooksHome, own_words}
