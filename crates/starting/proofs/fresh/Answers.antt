@@ -1,11 +1,8 @@
 -- `starting::fresh` meets its contract. Assumes nothing.
 use Rattle.std.proofs.Common.{◌≡◌, length, replicate, arith}
 use Rattle.std.proofs.lemmas.Grind.{common_steps}
-use Rattle.starting.proofs.Starting.{fresh_refused, fresh_made}
+use Rattle.starting.proofs.Starting.{fresh_made}
 use Rattle.starting.proofs.fresh.Goals as goal
-
-pub returns-then-not-lengths_are_good : goal.returns-then-not-lengths_are_good
-returns-then-not-lengths_are_good c = search fresh_refused
 
 pub returns : goal.returns
 returns c =
