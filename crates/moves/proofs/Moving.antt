@@ -6,8 +6,9 @@ use native.Mathlib.Decide.{dec_le}
 use mathlib.Core.Path.{◌≡◌, refl, sym, ap, ◌∙◌, subst}
 use mathlib.Core.Logic.{dite}
 use mathlib.Core.List.{List, [], ◌∷◌}
-use lib.ListN.{length, get_or, take, drop, length-take}
-use lib.Seq.{drop-cons, get_or-take}
+use lib.ListN.{length, get_or, take, drop}
+use lib.Seq.{drop-cons}
+use Rattle.std.proofs.lemmas.List.{drop_all}
 use denote.Struct.Rest.{rest}
 use Rattle.blocks.specs.Made.{Made}
 use Rattle.model.specs.Memory.{Mem, mem, tag}
@@ -55,42 +56,30 @@ module _ (Y : Shape) where
   unfolding stores
   no_moves T = made_nil
 
-drop_past : (l : List MoveRecord) (j : ℕ) → length l ≤ j → drop j l ≡ []
-drop_past [] zero h = refl
-drop_past [] (suc j) h = refl
-drop_past (x ∷ l) zero h = absurd (omega arith)
-drop_past (x ∷ l) (suc j) h = drop_past l j (omega arith)
-
 -- the moves still to be made, from number j on
-rest_on : (d : MoveRecord) (ms : List MoveRecord) (count j : ℕ) → j < count → count ≤ length ms
-    → as_moves (drop j (take count ms))
-    ≡ as_move (get_or ms j d) ∷ as_moves (drop (j + 1) (take count ms))
-rest_on d ms count j h l =
-    let i : j < length (take count ms) = rw length-take (omega arith) in
-    rw (add-one, drop-cons (take count ms) j d, get_or-take)
+rest_on : (d : MoveRecord) (ms : List MoveRecord) (j : ℕ) → j < length ms
+    → as_moves (drop j ms) ≡ as_move (get_or ms j d) ∷ as_moves (drop (j + 1) ms)
+rest_on d ms j h = rw (add-one, drop-cons ms j d)
 
-pub moves_step : (d : MoveRecord) (Y : Shape) (ms : List MoveRecord) (count j : ℕ) → j < count → count ≤ length ms → (T k T₁ k₁ t : List ℕ) (l l₁ : ℕ)
+pub moves_step : (d : MoveRecord) (Y : Shape) (ms : List MoveRecord) (j : ℕ) → j < length ms → (T k T₁ k₁ t : List ℕ) (l l₁ : ℕ)
     → Made (stores_of (move_block Y T (as_move (get_or ms j d)))) l (mem T k t) (mem T₁ k₁ t) l₁ → (m' : Mem) (l' : ℕ)
-    → Made (stores (move_blocks Y T₁ (as_moves (drop (j + 1) (take count ms))))) l₁ (mem T₁ k₁ t) m' l'
-    → Made (stores (move_blocks Y T (as_moves (drop j (take count ms))))) l (mem T k t) m' l'
-moves_step d Y ms count j h h' T k T₁ k₁ t l l₁ one m' l' rest =
-    rw (rest_on d ms count j h h') (move_on Y (as_move (get_or ms j d)) (as_moves (drop (j + 1) (take count ms))) T T₁ k k₁ t l l₁ one rest)
-
-rest_done : (ms : List MoveRecord) (count j : ℕ) → count ≤ j → as_moves (drop j (take count ms)) ≡ []
-rest_done ms count j h = ap as_moves (drop_past (take count ms) j (rw length-take (omega arith)))
+    → Made (stores (move_blocks Y T₁ (as_moves (drop (j + 1) ms)))) l₁ (mem T₁ k₁ t) m' l'
+    → Made (stores (move_blocks Y T (as_moves (drop j ms)))) l (mem T k t) m' l'
+moves_step d Y ms j h T k T₁ k₁ t l l₁ one m' l' rest =
+    rw (rest_on d ms j h) (move_on Y (as_move (get_or ms j d)) (as_moves (drop (j + 1) ms)) T T₁ k k₁ t l l₁ one rest)
 
 -- one move, in the code's words
-pub one_move : (n v shift from to : ℕ) {w c l l' : ℕ} (T k T₁ k₁ : List ℕ) → w ≡ get_or T from 0
-    → c ≡ min (from / 2 ^ shift) (other_bucket n (w / 65536) (from / 2 ^ shift)) % v
-    → ((t : List ℕ) → Made (stores_of (move c from to w)) l (mem T k t) (mem T₁ k₁ t) l')
+pub one_move : (n v shift : ℕ) (m : MoveRecord) {w c l l' : ℕ} (T k T₁ k₁ : List ℕ) → w ≡ get_or T m.from 0
+    → c ≡ min (m.from / 2 ^ shift) (other_bucket n (w / 65536) (m.from / 2 ^ shift)) % v
+    → ((t : List ℕ) → Made (stores_of (move c m.from m.to w)) l (mem T k t) (mem T₁ k₁ t) l')
     → (W : Ways) (p : ℕ) (t : List ℕ) → W.ways ≡ 2 ^ shift
-    → Made (stores_of (move_block (shape W n v p) T (record { from = from; to = to }))) l (mem T k t) (mem T₁ k₁ t) l'
+    → Made (stores_of (move_block (shape W n v p) T (as_move m))) l (mem T k t) (mem T₁ k₁ t) l'
 unfolding tag
-one_move n v shift from to {w} {c} {l} {l'} T k T₁ k₁ ew ec d W p t e =
-    subst (λ y. Made (stores_of (move (min (from / W.ways) (other_bucket n (y / 65536) (from / W.ways)) % v) from to y)) l (mem T k t) (mem T₁ k₁ t) l') ew
-    (subst (λ q. Made (stores_of (move (min (from / q) (other_bucket n (w / 65536) (from / q)) % v) from to w)) l (mem T k t) (mem T₁ k₁ t) l') (sym e)
-    (subst (λ c. Made (stores_of (move c from to w)) l (mem T k t) (mem T₁ k₁ t) l') ec (d t)))
+one_move n v shift m {w} {c} {l} {l'} T k T₁ k₁ ew ec d W p t e =
+    subst (λ y. Made (stores_of (move (min (m.from / W.ways) (other_bucket n (y / 65536) (m.from / W.ways)) % v) m.from m.to y)) l (mem T k t) (mem T₁ k₁ t) l') ew
+    (subst (λ q. Made (stores_of (move (min (m.from / q) (other_bucket n (w / 65536) (m.from / q)) % v) m.from m.to w)) l (mem T k t) (mem T₁ k₁ t) l') (sym e)
+    (subst (λ c. Made (stores_of (move c m.from m.to w)) l (mem T k t) (mem T₁ k₁ t) l') ec (d t)))
 
-pub moves_done : (Y : Shape) (T : List ℕ) (ms : List MoveRecord) (count j : ℕ) {l : ℕ} {m : Mem} → count ≤ j
-    → Made (stores (move_blocks Y T (as_moves (drop j (take count ms))))) l m m l
-moves_done Y T ms count j h = rw (rest_done ms count j h) (no_moves Y T)
+pub moves_done : (Y : Shape) (T : List ℕ) (ms : List MoveRecord) (j : ℕ) {l : ℕ} {m : Mem} → length ms ≤ j
+    → Made (stores (move_blocks Y T (as_moves (drop j ms)))) l m m l
+moves_done Y T ms j h = rw (drop_all j ms h) (no_moves Y T)

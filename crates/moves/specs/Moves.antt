@@ -1,5 +1,5 @@
 -- What the moves take. Assumes nothing.
-use Rattle.std.specs.Prelude.{ℕ, ◌^◌, ◌<◌, ◌≤◌, List, get_or}
+use Rattle.std.specs.Prelude.{ℕ, ◌^◌, ◌<◌, ◌≤◌, List, length, get_or}
 use Rattle.model.specs.Hash.{Size}
 use Rattle.model.specs.declared.MoveRecord.{MoveRecord}
 
@@ -11,11 +11,10 @@ pub record Movable (n v shift from : ℕ) : Type 0 where
   pub narrow : shift < 32
   pub inside : from < 2 ^ 32
 
--- the first count of the moves can be made
-pub record MovesIn (n v shift : ℕ) (ms : List MoveRecord) (count : ℕ) : Type 0 where
+-- the moves can be made
+pub record MovesIn (n v shift : ℕ) (ms : List MoveRecord) : Type 0 where
   pub size : Size n
   pub some : 0 < v
   pub few : v ≤ 1024
   pub narrow : shift < 32
-  pub four : count ≤ 4
-  pub sources : (j : ℕ) → j < count → (d : MoveRecord) → (get_or ms j d).from < 2 ^ 32
+  pub sources : (j : ℕ) → j < length ms → (d : MoveRecord) → (get_or ms j d).from < 2 ^ 32

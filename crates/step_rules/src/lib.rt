@@ -13,17 +13,12 @@ pub fn may_move(long: usize, n: u32, m: u32, shift: u32, w: u32, d: u32, v: Move
     requires { Size n × (long ≤ 8192) × (shift < 32) }
     ensures { result ≡ moves_by (2 ^ shift) long n m w d v }
 {
-    let from = v.from;
-    let to = v.to;
-    if long <= from {
-        return false;
-    }
-    if long <= to {
+    if long <= v.from || long <= v.to {
         return false;
     }
     let bad = runs::is_damaged(w, m);
-    let other = hashing::other_of((from >> shift) as u32, w / 65536, n);
-    (w != 0) & (!bad & ((w / 65536 == v.tag) & ((d == 0) & ((to >> shift) as u32 == other))))
+    let other = hashing::other_of((v.from >> shift) as u32, w / 65536, n);
+    (w != 0) & (!bad & ((w / 65536 == v.tag) & ((d == 0) & ((v.to >> shift) as u32 == other))))
 }
 
 // Whether the final store of an animal with these two buckets may be made among `long` slots: `number` is the animal number of the
