@@ -1,15 +1,9 @@
 -- `pointing::doubled_place` meets its contract. Assumes nothing.
-use Rattle.judgement.proofs.Walk.{passed_none, by_broken, by_whole, by_end}
+use native.Mathlib.Omega.{arith}
+use mathlib.Core.Path.{refl}
+use borrow.Author.Rules.{rules}
+use Rattle.places.proofs.Finds.{by_find}
 use Rattle.pointing.proofs.doubled_place.Goals as goal
 
-pub loop-p-init : goal.loop-p-init
-loop-p-init c = search passed_none
-
-pub returns-then-is_doubled_place : goal.returns-then-is_doubled_place
-returns-then-is_doubled_place c = search by_broken
-
-pub loop-p-preserved : goal.loop-p-preserved
-loop-p-preserved c = search by_whole
-
 pub returns : goal.returns
-returns c = search by_end
+returns c = by_find _ _ _ _ c.find.ensures.ran refl (omega arith) (λ x b q k. search rules)

@@ -13,8 +13,8 @@ returns-then-x-eq0 c = search by_vacant
 
 pub overflow_cast-b : goal.overflow_cast-b
 overflow_cast-b c =
-    record { fits = omega (arith, c.requires.1, buckets_fit four c.args.slots.now c.args.counters.now c.args.items.now c.requires.0) }
+    record { fits = omega (arith, c.requires.1, buckets_fit four c.args.table.now.slots.now c.args.table.now.counters.now c.args.table.now.items.now c.requires.0) }
 
 pub returns : goal.returns
 returns c =
-    by_homes _ _ c.if-w-eq0.false c.get64-x.ensures c.if-x-eq0.false c.homes_in-h.ensures
+    by_homes _ _ c.if-w-eq0.false c.word_or-x.ensures c.if-x-eq0.false c.homes_in-h.ensures

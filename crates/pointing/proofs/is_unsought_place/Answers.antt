@@ -1,5 +1,5 @@
 -- `pointing::is_unsought_place` meets its contract. Assumes nothing.
-use Rattle.model.specs.Memory.{mem}
+use Rattle.model.specs.Seen.{seen}
 use Rattle.pointing.proofs.Pointing.{by_vacant_place, by_pointers, place_fits}
 use Rattle.pointing.proofs.is_unsought_place.Goals as goal
 
@@ -8,7 +8,7 @@ returns-then-x-eq0 c = search by_vacant_place
 
 pub overflow_cast-p : goal.overflow_cast-p
 overflow_cast-p c =
-    record { fits = place_fits (mem c.args.slots.now c.args.counters.now c.args.items.now) _ c.requires.0.right c.requires.1 }
+    record { fits = place_fits (seen c.args.table.now) _ c.requires.0.right c.requires.1 }
 
 pub returns : goal.returns
 returns c = search by_pointers
