@@ -1,62 +1,75 @@
--- Read, a law a way out, in the code's own words. Assumes nothing.
-use Prim.Native.Nat.{ℕ, ◌%◌, ◌/◌}
-use mathlib.Core.Path.{◌≡◌, sym, ap, ◌∙◌}
-use mathlib.Core.Logic.{◌≢◌}
-use mathlib.Core.Bool.{Bool, true, false, not}
-use Rattle.std.specs.Prelude.{Option}
-use mathlib.Core.List.{List}
-use lib.ListN.{length, get_or}
-use lib.Dec.{eqb}
-use Rattle.model.specs.Choice.{any, first}
-use Rattle.model.specs.Memory.{Mem, damaged, permission, place, stamp}
-use Rattle.model.specs.Shape.{Ways, right_lengths, shape_of}
-use Rattle.model.specs.Answers.{Answer, absent, refused}
-use Rattle.model.specs.Calling.{read}
-use Rattle.model.specs.Said.{said_reading}
-use Rattle.model.specs.Age.{bad_time, judge, verdict}
-use Rattle.model.specs.Calls.{Outcome, held, tell}
+-- Read, serve and find on what was looked up, a law a way out. Assumes nothing.
+use Prim.Native.Nat.{ℕ, ◌+◌, ◌*◌, ◌%◌}
+use mathlib.Core.Path.{◌≡◌, refl, sym, ap, ◌∙◌}
+use mathlib.Core.Bool.{Bool, true, false}
+use mathlib.Core.List.{List, [], ◌∷◌}
+use lib.ListN.{set}
+use Rattle.std.specs.Prelude.{Option, Some, None, Ok, option_map}
+use Rattle.model.specs.Choice.{choose}
+use Rattle.model.specs.Memory.{Mem, mem, permission, place, stamp}
+use Rattle.model.specs.Shape.{Ways, shape_of}
+use Rattle.model.specs.Stores.{recency, wholes}
+use Rattle.model.specs.Answers.{absent, says_fresh}
+use Rattle.model.specs.Calling.{find, read, serve}
+use Rattle.model.specs.Said.{found_at, said_reading}
+use Rattle.model.specs.Age.{bad_time, is_fresh, judge, verdict}
+use Rattle.model.specs.Calls.{Outcome, find_at, serve_at, tell}
 use Rattle.model.specs.Lent.{lent_call}
-use Rattle.home_words.specs.HomeWords.{found_word, home_words, leads}
-use Rattle.looking.specs.Look.{HomesIn, Passed}
-use Rattle.looking.proofs.Early.{due_one, due_three, due_two}
-use Rattle.looking.proofs.Looking.{seen_absent, seen_busy, seen_held, seen_damaged}
-use Rattle.hashing.specs.declared.Homes.{Homes}
+use Rattle.model.specs.Promised.{WholeAs}
+use Rattle.model.proofs.RowWords.{fresh_says}
+use Rattle.looking.specs.Look.{LooksUp, Passed}
+use Rattle.reading.proofs.Seen.{seen_absent, seen_held}
+use Rattle.looking.specs.declared.Looked.{Looked}
 use Rattle.model.specs.declared.Reading.{Reading}
 
-module _ (W : Ways) (m : Mem) (x limit now : ℕ) where
-  abbrev told : Answer
-  told = (lent_call W m (read x limit now)).answer
+-- what an outcome answers
+says : {o o' : Outcome} → o ≡ o' → o'.answer ≡ o.answer
+says e = sym (ap (λ (o : Outcome). o.answer) e)
 
-  abbrev judged : Option ℕ → Outcome
-  judged o = tell (judge m.items limit now o)
+module _ (W : Ways) (m : Mem) (x : ℕ) where
+  module _ (limit now : ℕ) (p : Passed W m x (bad_time limit now)) {r : Looked} (l : LooksUp W m x r) where
+    pub read_absent : r.hit ≡ Ok None → absent ≡ (lent_call W m (read x limit now)).answer
+    read_absent q = says (seen_absent W m x (bad_time limit now) (λ o. tell (judge m.items limit now o)) p l q)
 
-  say : {o : Outcome} → lent_call W m (read x limit now) ≡ o → o.answer ≡ told
-  say e = sym (ap (λ (o : Outcome). o.answer) e)
+    pub read_held : {w : ℕ} → r.hit ≡ Ok (Some w) → (v : Reading)
+        → said_reading (Ok v) ≡ verdict limit now (permission m.items (w % 65536)) (stamp m.items (w % 65536))
+        → said_reading (Ok v) ≡ (lent_call W m (read x limit now)).answer
+    unfolding place
+    read_held q v e = e ∙ says (seen_held W m x (bad_time limit now) (λ o. tell (judge m.items limit now o)) p l q)
 
-  module _ {g : Bool} (e : g ≡ right_lengths W m) where
-    pub read_one : not g ≡ true → refused 1 ≡ told
-    read_one t = say (due_one W m x (bad_time limit now) e t (judged (held (shape_of W m) m x)))
+    pub serve_absent : r.hit ≡ Ok None → WholeAs W m (serve x limit now) m absent
+    serve_absent q =
+        let e = seen_absent W m x (bad_time limit now) (λ o. serve_at (shape_of W m) m limit now o) p l q in
+        record { told = says e; left = sym (ap (λ (o : Outcome). wholes o.blocks m) e) }
 
-    pub read_two : not g ≡ false → x ≡ 0 → refused 2 ≡ told
-    read_two t z = say (due_two W m x (bad_time limit now) e t z (judged (held (shape_of W m) m x)))
+    -- the place of the hit is judged, and marked if that says fresh
+    pub serve_held : {w : ℕ} → r.hit ≡ Ok (Some w) → (v : Reading) {f : Bool} {items' : List ℕ}
+        → said_reading (Ok v) ≡ verdict limit now (permission m.items (w % 65536)) (stamp m.items (w % 65536))
+        → f ≡ says_fresh (said_reading (Ok v)) → items' ≡ choose f (set m.items (4 * (w % 65536) + 3) 1) m.items
+        → WholeAs W m (serve x limit now) (mem m.slots m.counters items') (said_reading (Ok v))
+    unfolding place
+    serve_held {w} q v {f} {items'} e ef ei =
+        record {
+          told = e ∙ says at;
+          left = ap (λ (l : List ℕ). mem m.slots m.counters l) (ei ∙ ap (λ b. choose b (set m.items (4 * k + 3) 1) m.items) fresh_now)
+              ∙ marks (is_fresh limit now (stamp m.items k)) ∙ sym (ap (λ (o : Outcome). wholes o.blocks m) at);
+        }
+      where
+        k : ℕ
+        k = w % 65536
 
-    pub read_three : not g ≡ false → x ≢ 0 → {b : Bool} → b ≡ bad_time limit now → b ≡ true → refused 3 ≡ told
-    read_three t nz eb y = say (due_three W m x (bad_time limit now) e t nz eb y (judged (held (shape_of W m) m x)))
+        at : lent_call W m (serve x limit now) ≡ serve_at (shape_of W m) m limit now (Some k)
+        at = seen_held W m x (bad_time limit now) (λ o. serve_at (shape_of W m) m limit now o) p l q
 
-  module _ (p : Passed W m x (bad_time limit now)) {h : Homes} (hs : HomesIn W m x h) {b : Bool} (odd : b ≡ eqb (get_or m.counters h.counter 0 % 2) 1) where
-    pub read_busy : b ≡ true → refused 8 ≡ told
-    read_busy e = say (seen_busy W m x (bad_time limit now) p judged hs odd e)
+        fresh_now : f ≡ is_fresh limit now (stamp m.items k)
+        fresh_now = ef ∙ ap says_fresh e ∙ fresh_says limit now (permission m.items k) (stamp m.items k)
 
-    module _ (calm : b ≡ false) {ws : List ℕ} {k : ℕ} {c : Bool} (words : ws ≡ home_words W.ways m.slots h.first h.second)
-        (places : k ≡ length m.items / 4) (damage : c ≡ any (damaged k) ws) where
-      pub read_damaged : c ≡ true → refused 4 ≡ told
-      read_damaged e = say (seen_damaged W m x (bad_time limit now) p judged hs odd calm words places damage e)
+        marks : (b : Bool) → mem m.slots m.counters (choose b (set m.items (4 * k + 3) 1) m.items) ≡ wholes (choose b (recency k 1 ∷ []) []) m
+        marks true = refl
+        marks false = refl
 
-      module _ (sound : c ≡ false) {w : ℕ} (hit : w ≡ found_word (first (leads m.items h.tag x) ws)) where
-        pub read_absent : w ≡ 0 → absent ≡ told
-        read_absent z = say (seen_absent W m x (bad_time limit now) p judged hs odd calm words places damage sound hit z)
-
-        pub read_held : w ≢ 0 → (r : Reading) → said_reading r ≡ verdict limit now (permission m.items (w % 65536)) (stamp m.items (w % 65536))
-            → said_reading r ≡ told
-        unfolding place
-        read_held nz r e = e ∙ say (seen_held W m x (bad_time limit now) p judged hs odd calm words places damage sound hit nz)
+  pub find_seen : Passed W m x false → {r : Looked} → LooksUp W m x r → (o : Option ℕ) → r.hit ≡ Ok o
+      → found_at (option_map (λ w. w % 65536) o) ≡ (lent_call W m (find x)).answer
+  unfolding place
+  find_seen p l None q = says (seen_absent W m x false (λ o. tell (find_at o)) p l q)
+  find_seen p l (Some w) q = says (seen_held W m x false (λ o. tell (find_at o)) p l q)
