@@ -1,15 +1,27 @@
 -- `deleting::removal_of` meets its contract. Assumes nothing.
-use Rattle.deleting.proofs.Deleting.{removal_refused, removal_absent, removal_nowhere, removal_takes}
+use mathlib.Core.Bool.{false}
+use mathlib.Core.Path.{refl, ap, ◌∙◌}
+use Rattle.std.specs.Prelude.{Ok}
+use Rattle.model.specs.Seen.{seen}
+use Rattle.model.specs.Shape.{four}
+use Rattle.looking.proofs.Early.{early_passed}
+use Rattle.deleting.proofs.Deleting.{removal_absent, removal_nowhere, removal_takes}
 use Rattle.deleting.proofs.removal_of.Goals as goal
 
-pub returns-in-Refused : goal.returns-in-Refused
-returns-in-Refused c = search removal_refused
+pub returns-in_default : goal.returns-in_default
+returns-in_default c =
+    let m = seen c.args.table.now in
+    let p = early_passed four m c.args.animal false refl c.refused_early.ensures c.in_ok-refused_early.was in
+    removal_absent four m c.args.animal p c.look_up-hit.ensures (c.in_ok-word.was ∙ ap Ok c.in_default.is)
 
-pub returns-in-Absent : goal.returns-in-Absent
-returns-in-Absent c = search removal_absent
+pub returns-in_default-slot_of : goal.returns-in_default-slot_of
+returns-in_default-slot_of c =
+    let m = seen c.args.table.now in
+    let p = early_passed four m c.args.animal false refl c.refused_early.ensures c.in_ok-refused_early.was in
+    removal_nowhere four m c.args.animal p c.look_up-hit.ensures (c.in_ok-word.was ∙ ap Ok c.in-Some.is) c.slot_of.ensures c.in_default-slot_of.is
 
-pub returns-in-Nowhere : goal.returns-in-Nowhere
-returns-in-Nowhere c = search removal_nowhere
-
-pub returns-in-At-slot : goal.returns-in-At-slot
-returns-in-At-slot c = search removal_takes
+pub returns : goal.returns
+returns c =
+    let m = seen c.args.table.now in
+    let p = early_passed four m c.args.animal false refl c.refused_early.ensures c.in_ok-refused_early.was in
+    removal_takes four m c.args.animal p c.look_up-hit.ensures (c.in_ok-word.was ∙ ap Ok c.in-Some.is) c.slot_of.ensures c.in-Some-slot_of.is
