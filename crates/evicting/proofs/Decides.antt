@@ -1,29 +1,31 @@
 -- Evict's promise decides its answer, the hand that comes back, and every lent word. Assumes nothing.
 use Prim.Native.Nat.{ℕ}
 use mathlib.Core.Path.{◌≡◌, refl, sym, ap, ◌∙◌, ap₂}
+use Rattle.std.specs.Prelude.{Result, Ok, Err}
 use Rattle.model.specs.Memory.{Mem}
 use Rattle.model.specs.Choice.{choose}
 use Rattle.model.specs.Answers.{Answer, is, paper, value}
-use Rattle.model.specs.Said.{said_evicting}
+use Rattle.model.specs.Said.{refusal_of, said_evicting}
+use Rattle.model.proofs.Said.{refusal_back}
 use Rattle.evicting.specs.Evict.{TurnsAs, TurnedAs}
-use Rattle.model.specs.declared.Evicting.{Evicting}
-use Rattle.model.specs.declared.Evicting.TheVariants as answer
+use Rattle.model.specs.declared.Evicted.{Evicted}
+use Rattle.model.specs.declared.Refusal.{Refusal}
 use Rattle.evicting.specs.declared.Turned.{Turned}
 use Rattle.model.specs.Calls.{Outcome}
 
 -- what the answer said, read back
-abbrev unsaid : Answer → Evicting
-unsaid a = choose (is 6 a) (answer.Evicted (value a 1) (value a 2)) (answer.Refused (paper a).number)
+abbrev unsaid : Answer → Result Evicted Refusal
+unsaid a = choose (is 6 a) (Ok (record { victim = value a 1; looked = value a 2 })) (Err (refusal_of (paper a).number))
 
-unsaid_said : (a : Evicting) (h : ℕ) → unsaid (said_evicting a h) ≡ a
-unsaid_said (answer.Evicted x n) h = refl
-unsaid_said (answer.Refused n) h = refl
+unsaid_said : (r : Result Evicted Refusal) (h : ℕ) → unsaid (said_evicting r h) ≡ r
+unsaid_said (Ok e) h = refl
+unsaid_said (Err r) h = ap Err (refusal_back r)
 
 -- the same answer and the same hand are the same result
 same_turned : (r r' : Turned) {a : Answer} {h : ℕ} → said_evicting r.answer r.hand.at ≡ a
     → said_evicting r'.answer r'.hand.at ≡ a → r.hand.at ≡ h → r'.hand.at ≡ h → r ≡ r'
 same_turned r r' {a} {h} t t' b b' =
-    ap₂ (λ (x : Evicting) (n : ℕ). record { answer = x; hand = record { at = n } })
+    ap₂ (λ (x : Result Evicted Refusal) (n : ℕ). record { answer = x; hand = record { at = n } })
     (sym (unsaid_said r.answer r.hand.at) ∙ ap unsaid (t ∙ sym t') ∙ unsaid_said r'.answer r'.hand.at) (b ∙ sym b')
 
 -- any two outcomes that a promise allows are equal

@@ -3,7 +3,7 @@ use Prim.Native.Nat.{ℕ, zero, suc, ◌+◌, ◌*◌, ◌≤◌, ◌-◌, ◌%�
 use native.Mathlib.Omega.{arith}
 use mathlib.Core.Path.{◌≡◌, refl, sym, ap, ◌∙◌, subst}
 use mathlib.Core.Bool.{◌&&◌}
-use Rattle.std.specs.Prelude.{Option, Some, None}
+use Rattle.std.specs.Prelude.{Option, Some, None, Ok, Err}
 use mathlib.Core.List.{List, [], ◌∷◌, ◌++◌, append-nil}
 use lib.ListN.{length, length-append}
 use lib.Dec.{leb}
@@ -22,14 +22,12 @@ use Rattle.model.proofs.Clock.{next_mod}
 use Rattle.blocks.specs.Made.{Made, all_stores}
 use Rattle.blocks.proofs.Laws.{made_append}
 use Rattle.blocks.proofs.Budget.{Few, did_all, does_as, does_made, does_refuse, few_or, few_refuse}
-use Rattle.aiming.specs.Aiming.{Readies, Ready, Turns, aiming, passed_by, places_in}
+use Rattle.aiming.specs.Aiming.{Aim, Readies, Ready, Turns, aiming, passed_by, places_in}
 use Rattle.evicting.specs.Evict.{EvictCut, Evicted, TurnsAs, clear_stores, evict_stores}
 use Rattle.places.specs.declared.Hand.{Hand}
 use Rattle.aiming.specs.declared.Target.{Target}
-use Rattle.aiming.specs.declared.Aim.{Aim}
-use Rattle.aiming.specs.declared.Aim.TheVariants as aim
 use Rattle.evicting.specs.declared.Turned.{Turned}
-use Rattle.model.specs.declared.Evicting.TheVariants as answer
+use Rattle.model.specs.declared.Refusal.{Refusal}
 
 -- the stores of the clears and of one block more
 blocks_stores : (ps : List ℕ) (b : Block) → stores (clear_blocks ps ++ (b ∷ [])) ≡ clear_stores ps ++ stores_of b
@@ -48,15 +46,15 @@ stores_made m hand t e d d' = made_append (rw e at (d m.slots m.counters)) d'
 -- the do
 module _ {m : Mem} {a : Aim} where
   -- a refusal makes no store, cut anywhere, and the hand comes back as it was
-  pub turn_refused : {k n : ℕ} {h : Hand} → a ≡ aim.Refused n → TurnsAs (aiming m h.at a) h.at k m m (record { answer = answer.Refused n; hand = h })
+  pub turn_refused : {k : ℕ} {n : Refusal} {h : Hand} → a ≡ Err n → TurnsAs (aiming m h.at a) h.at k m m (record { answer = Err n; hand = h })
   turn_refused {h = h} e = record { does = does_refuse (ap (aiming m h.at) e); back = sym (ap (λ a. hand_back h.at (aiming m h.at a).answer) e) }
 
-  module _ {hand : ℕ} {t : Target} (w : Readies m hand a) (e : a ≡ aim.Takes t) where
+  module _ {hand : ℕ} {t : Target} (w : Readies m hand a) (e : a ≡ Ok t) where
     pub turn_ready : Ready m hand t
     turn_ready = subst (Readies m hand) e w
 
     pub turn_taken : {k l : ℕ} {m' : Mem} {g : Hand} → Made (evict_stores m hand t) k m m' l → g.at ≡ next_hand (places_in m) t.place
-        → TurnsAs (aiming m hand a) hand k m m' (record { answer = answer.Evicted t.animal t.looked; hand = g })
+        → TurnsAs (aiming m hand a) hand k m m' (record { answer = Ok (record { victim = t.animal; looked = t.looked }); hand = g })
     turn_taken {k} {l} {m'} {g} d n =
         let f : g.at ≡ (t.place + 1) % places_in m = n ∙ next_mod (places_in m) t.place turn_ready.place_below in
         let b = remove t.counter t.slot t.place in
@@ -106,5 +104,6 @@ module _ (W : Ways) (m : Mem) (hand : ℕ) (a : Aim) (w : Turns W m hand a) {m' 
   pub evict_cut_done : {k : ℕ} → TurnsAs (aiming m hand a) hand k m m' r → EvictCut W m hand k m' r
   evict_cut_done d = record { does = does_as w.comes d.does; back = d.back ∙ ap (λ (o : Outcome). hand_back hand o.answer) w.comes }
 
-  pub evict_done : TurnsAs (aiming m hand a) hand all_stores m m' r → Evicted W m hand m' r
-  evict_done d = let c = evict_cut_done d in record { did = did_all (few_evict W m hand) (omega arith) c.does; back = c.back }
+-- all of the stores, by the cut form
+pub evict_done : (W : Ways) (m : Mem) (hand : ℕ) {m' : Mem} {r : Turned} → EvictCut W m hand all_stores m' r → Evicted W m hand m' r
+evict_done W m hand c = record { did = did_all (few_evict W m hand) (omega arith) c.does; back = c.back }

@@ -1,7 +1,7 @@
 // Evict, whole and cut: CLOCK's victim is found before any store; then what the hand passed is cleared, and the victim goes.
 #![tactic(auto)]
 
-ghost use Rattle.std.specs.Prelude.{◌≡◌, List, [], ◌&&◌, ℕ, ◌+◌, ◌-◌, ◌*◌, ◌<◌, ◌≤◌, min, length};
+ghost use Rattle.std.specs.Prelude.{List, [], ◌&&◌, ℕ, ◌+◌, ◌*◌, ◌<◌, ◌≤◌, ◌≡◌, length};
 ghost use Rattle.model.specs.Memory.{mem, live, is_recent};
 ghost use Rattle.model.specs.Shape.{four};
 ghost use Rattle.model.specs.Clock.{prepend, passed_recent};
@@ -9,14 +9,14 @@ ghost use Rattle.blocks.specs.Made.{Made};
 ghost use Rattle.aiming.specs.Aiming.{aiming, Readies, Ready};
 ghost use Rattle.evicting.specs.Evict.{EvictCut, Evicted, TurnsAs, clear_stores, evict_stores};
 
-use aiming::{Aim, Target};
-use model::Evicting;
+use aiming::Target;
+use model::{Refusal, Table};
 use places::Hand;
 
 // What evict gives back: its answer, and the hand.
-#[derive(Drop)]
+#[derive(Clone, Copy)]
 pub struct Turned {
-    pub answer: Evicting,
+    pub answer: Result<model::Evicted, Refusal>,
     pub hand: Hand,
 }
 
@@ -29,7 +29,7 @@ fn clear_one(items: &mut [u64], p: usize, left: u64) -> u64
     let animal = items[4 * p];
     let recent = items[4 * p + 3];
     if (animal != 0) & (recent != 0) {
-        return blocks::put_item(items, 4 * p + 3, 0, left);
+        return blocks::put(items, 4 * p + 3, 0, left);
     }
     left
 }
@@ -42,29 +42,15 @@ fn clear_passed(items: &mut [u64], m: usize, hand: Hand, count: usize, left: u64
 {
     let mut h = hand;
     let mut rest = left;
-    let mut i: usize = 0;
-    while i < count {
-        let place = h.at;
-        rest = clear_one(items, place, rest);
+    for _passed in 0..count {
+        rest = clear_one(items, h.at, rest);
         h = h.step(m);
-        i += 1;
     }
     rest
 }
 
-// The places that the hand passed before the victim, each once.
-fn count_passed(looked: usize, m: usize) -> usize
-    requires { 1 ≤ looked }
-    ensures { result ≡ min (looked - 1) m }
-{
-    let before = looked - 1;
-    if before < m {
-        return before;
-    }
-    m
-}
-
-// The clears, then the delete of the victim. Requires what the look has shown of the hand and the victim.
+// The clears of the places that the hand passed before the victim, each once, then the delete of the victim. Requires what the look has
+// shown of the hand and the victim.
 fn take_away(
     slots: &mut [u32],
     counters: &mut [u32],
@@ -79,7 +65,7 @@ fn take_away(
         (mem slots.new counters.new items.new) result }
 {
     let m = items.len() / 4;
-    let count = count_passed(t.looked, m);
+    let count = (t.looked - 1).min(m);
     let left = clear_passed(items, m, hand, count, k);
     let c = t.counter as usize;
     blocks::remove_entry(slots, counters, items, c, t.slot, t.place, left)
@@ -91,7 +77,7 @@ fn carry_out(
     counters: &mut [u32],
     items: &mut [u64],
     hand: Hand,
-    aim: Aim,
+    aim: Result<Target, Refusal>,
     k: u64,
 ) -> Turned
     requires { Readies (mem slots.old counters.old items.old) hand.at aim }
@@ -101,25 +87,28 @@ fn carry_out(
 {
     let m = items.len() / 4;
     match aim {
-        Aim::Refused(n) => {
-            let answer = Evicting::Refused(n);
+        Err(refusal) => {
+            let answer = Err(refusal);
             Turned { answer, hand }
         }
-        Aim::Takes(t) => {
+        Ok(t) => {
             take_away(slots, counters, items, hand, t, k);
-            let place = t.place as usize;
-            let here = Hand { at: place };
-            let next = here.step(m);
-            let answer = Evicting::Evicted {
-                victim: t.animal,
-                looked: t.looked,
+            let here = Hand {
+                at: t.place as usize,
             };
-            Turned { answer, hand: next }
+            Turned {
+                answer: Ok(model::Evicted {
+                    victim: t.animal,
+                    looked: t.looked,
+                }),
+                hand: here.step(m),
+            }
         }
     }
 }
 
 // Evict, of which only the first k stores are made.
+#[inline(always)]
 pub fn evict_cut(
     slots: &mut [u32],
     counters: &mut [u32],
@@ -130,15 +119,21 @@ pub fn evict_cut(
     ensures { EvictCut four (mem slots.old counters.old items.old) hand.at k
         (mem slots.new counters.new items.new) result }
 {
-    let aim = aiming::aim_turn(slots, counters, items, hand);
+    let aim = aiming::aim_turn(
+        &Table {
+            slots,
+            counters,
+            items,
+        },
+        hand,
+    );
     carry_out(slots, counters, items, hand, aim, k)
 }
 
-// Evict. Beside its cut form and not by way of it: a function that several call is not inlined.
+// Evict: all of its stores.
 pub fn evict(slots: &mut [u32], counters: &mut [u32], items: &mut [u64], hand: Hand) -> Turned
     ensures { Evicted four (mem slots.old counters.old items.old) hand.at
         (mem slots.new counters.new items.new) result }
 {
-    let aim = aiming::aim_turn(slots, counters, items, hand);
-    carry_out(slots, counters, items, hand, aim, blocks::ALL_STORES)
+    evict_cut(slots, counters, items, hand, blocks::ALL_STORES)
 }

@@ -5,8 +5,8 @@ use Rattle.evicting.proofs.carry_out.Goals as goal
 pub take_away-requires : goal.take_away-requires
 take_away-requires c = search turn_ready
 
-pub returns-in-Refused : goal.returns-in-Refused
-returns-in-Refused c = search turn_refused
+pub returns-in-Err : goal.returns-in-Err
+returns-in-Err c = search turn_refused
 
-pub returns-in-Takes : goal.returns-in-Takes
-returns-in-Takes c = search turn_taken
+pub returns-in-Ok : goal.returns-in-Ok
+returns-in-Ok c = search turn_taken

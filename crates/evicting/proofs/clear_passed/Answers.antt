@@ -3,17 +3,17 @@ use native.Mathlib.Omega.{arith}
 use Rattle.evicting.proofs.Clears.{clear_first, clear_next, clear_last}
 use Rattle.evicting.proofs.clear_passed.Goals as goal
 
-pub loop-i-init : goal.loop-i-init
-loop-i-init c = search clear_first
+pub loop-passed-init : goal.loop-passed-init
+loop-passed-init c = search clear_first
 
 pub clear_one-rest-requires : goal.clear_one-rest-requires
 clear_one-rest-requires c = omega arith
 
-pub loop-i-preserved : goal.loop-i-preserved
-loop-i-preserved c = search clear_next
+pub loop-passed-preserved : goal.loop-passed-preserved
+loop-passed-preserved c = search clear_next
 
 pub shape_of-items : goal.shape_of-items
-shape_of-items c = c.loop-i.invariant.long
+shape_of-items c = c.loop-passed.invariant.long
 
 pub returns : goal.returns
 returns c = search clear_last
