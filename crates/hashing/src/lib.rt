@@ -2,16 +2,23 @@
 // The number of buckets stays a number, with `Size n` in each contract: docs/STATEMENTS names these functions, so none may take a narrower type.
 #![tactic(auto)]
 
-ghost use Rattle.std.specs.Prelude.{◌≡◌, ◌%◌, ◌<◌, min};
+ghost use Rattle.std.specs.Prelude.{◌≡◌, ◌*◌, ◌%◌, ◌^◌, ◌<◌, min};
 ghost use Rattle.model.specs.Hash.{fnv_step, hash, tag_from, Size, spread, other_bucket};
 ghost use Rattle.model.specs.Shape.{good_counters, good_items, good_lengths, good_slots, four};
 ghost use Rattle.hashing.specs.Homes.{HomesAre};
+
+// h times p, kept modulo 2^32. Document 01 wants a helper of the program's own here.
+pub fn mul_mod_2_32(h: u32, p: u32) -> u32
+    ensures { result ≡ (h * p) % 2 ^ 32 }
+{
+    h.wrapping_mul(p)
+}
 
 // One byte of FNV-1a.
 pub fn fnv_byte(h: u32, b: u8) -> u32
     ensures { result ≡ fnv_step h b }
 {
-    (h ^ u32::from(b)).wrapping_mul(16777619)
+    mul_mod_2_32(h ^ u32::from(b), 16777619)
 }
 
 // FNV-1a over the eight bytes of an animal number, lowest first. Each step waits for the one before; but a byte of 0 only multiplies by the prime, so four or two of them on top are one product, by its power modulo 2^32.
@@ -25,12 +32,12 @@ pub fn hash_of(animal: u64) -> u32
     let h4 = fnv_byte(h3, bytes[3]);
     let upper = animal / 4294967296;
     if upper == 0 {
-        return h4.wrapping_mul(1345077009);
+        return mul_mod_2_32(h4, 1345077009);
     }
     let h5 = fnv_byte(h4, bytes[4]);
     let h6 = fnv_byte(h5, bytes[5]);
     if upper < 65536 {
-        return h6.wrapping_mul(637696617);
+        return mul_mod_2_32(h6, 637696617);
     }
     let h7 = fnv_byte(h6, bytes[6]);
     fnv_byte(h7, bytes[7])
@@ -56,7 +63,7 @@ pub fn spread_of(tag: u32, n: u32) -> u32
     requires { Size n }
     ensures { result ≡ spread n tag }
 {
-    low_part(tag.wrapping_mul(1540483477), n) | 1
+    low_part(mul_mod_2_32(tag, 1540483477), n) | 1
 }
 
 // The other bucket of an entry with a tag in bucket b.
@@ -112,11 +119,11 @@ pub fn homes_of(animal: u64, n: u32, v: u32) -> Homes
     }
 }
 
-// A slots run is good if its length has one bit set, and is 8 to 8,192.
+// A slots run is good if its length has one bit set, as document 01 wants it tested, and is 8 to 8,192.
 pub fn good_slots_length(s: usize) -> bool
     ensures { result ≡ good_slots four s }
 {
-    (8..=8192).contains(&s) && s.is_power_of_two()
+    (8..=8192).contains(&s) && s.count_ones() == 1
 }
 
 // There are 1 to 1,024 counters.

@@ -10,7 +10,7 @@ pub returns-then-contains : goal.returns-then-contains
 returns-then-contains c =
     let l : 8 ≤ c.args.s = grind (arith, nat_tests) in
     let h : c.args.s ≤ 8192 = grind (arith, nat_tests) in
-    c.is_power_of_two.ensures ∙ middle_length c.args.s l h
+    middle_length c.args.s l h
 
 pub returns-else-contains : goal.returns-else-contains
 returns-else-contains c = c.if-contains.false ∙ outer_length c.args.s (λ l h. grind (arith, nat_tests))
