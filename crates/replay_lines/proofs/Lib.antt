@@ -1,4 +1,4 @@
+pub mod Examples
 pub mod Fitting
 pub mod Reasons
 pub mod Rows
-pub mod Examples

@@ -1,126 +1,101 @@
 -- Laws on the rows of a table, and on the end of a line: one a way out of the code. Assumes nothing.
-use Prim.Native.Nat.{ℕ, ◌+◌, ◌-◌, ◌≤◌}
+use Prim.Native.Nat.{ℕ, suc, ◌+◌, ◌-◌, ◌<◌}
 use native.Mathlib.Numerals.{add-one}
 use native.Mathlib.Omega.{arith}
 use mathlib.Core.Path.{◌≡◌, refl, sym, ap, ap₂, ◌∙◌}
-use mathlib.Core.Logic.{◌≢◌}
-use mathlib.Core.Bool.{Bool, true, false}
-use Rattle.std.specs.Prelude.{Option, Some, None}
+use mathlib.Core.Bool.{Bool, true, false, ◌&&◌}
+use Rattle.std.specs.Prelude.{Option, Some, None, MatchOption}
+use Rattle.std.specs.Option.{unwrap_or}
+use Rattle.std.proofs.Common.{Bor}
 use mathlib.Core.List.{List, [], ◌∷◌}
-use lib.ListN.{length, drop, drop_of_length-le, get_or, length-replicate, replicate, set, take}
-use lib.Seq.{length-take-le, sets, take-length, take-take}
-use borrow.Author.Tests.{eq-eqb, ne_eqb}
-use Rattle.model.specs.Choice.{choose}
+use lib.ListN.{length, drop, drop_of_length-le, get_or, replicate, take}
+use lib.Pointwise.{pointwise}
+use lib.Dec.{eqb}
+use lib.Seq.{drop-cons, sets}
 use Rattle.replay_words.specs.Words.{before, is_comment, lines, without_comment, without_return, words}
-use Rattle.replay_words.specs.Cursor.{First, PieceAt, part}
-use Rattle.replay_words.specs.declared.Piece.{Piece}
+use Rattle.replay_words.specs.Cursor.{First}
 use Rattle.replay_words.proofs.Scan.{before_take}
-use Rattle.replay_lines.specs.Reasons.{why_not}
-use Rattle.replay_lines.specs.Line.{Said, first_row, fitting, or_else, padded, said, said_by}
-use Rattle.replay_lines.specs.Cursor.{Body, Fits, Follows, WithoutReturn, stored}
+use Rattle.replay_lines.specs.Reasons.{reason_number, why_not}
+use Rattle.replay_lines.specs.Line.{Said, first_row, fitting, or_else, padded, said_by}
+use Rattle.replay_lines.specs.Cursor.{Fits, stored}
+use Rattle.replay_lines.specs.declared.Reason.{Reason}
 
--- the rows up to from do not fit, and they are n
-pub record Trying (rows line before now : List ℕ) (from n : ℕ) : Type 0 where
-  pub inside : from ≤ length rows
-  pub few : n ≤ from
-  pub long : length now ≡ length before
-  pub ahead : first_row (why_not (lines rows) (words line)) n (lines (drop from rows)) (words line) ≡ said_by (lines rows) (words line)
+-- the rows in front of what is left do not fit, and they are n
+pub record Trying (rows line left : List ℕ) (n : ℕ) : Type 0 where
+  pub many : n + length (lines left) ≡ length (lines rows)
+  pub ahead : first_row (why_not (lines rows) (words line)) n (lines left) (words line) ≡ said_by (lines rows) (words line)
 
-pub try_first : (rows line numbers : List ℕ) → Trying rows line numbers numbers 0 0
+pub try_first : (rows line : List ℕ) → Trying rows line rows 0
 unfolding said_by
-try_first rows line numbers = record { inside = omega arith; few = omega arith; long = refl; ahead = refl }
+try_first rows line = record { many = omega arith; ahead = refl }
 
-module _ {rows line before now : List ℕ} {from n : ℕ} (s : Trying rows line before now from n) where
-  pub try_end : {clear after : List ℕ} {y : ℕ} → length rows ≤ from → clear ≡ replicate (length now) 0 → y ≡ why_not (lines rows) (words line)
-      → after ≡ set clear 0 y → Follows (said_by (lines rows) (words line)) before after n
-  unfolding first_row lines
-  try_end {clear} {after} {y} h c e f =
-      let q : said_by (lines rows) (words line) ≡ record { row = n; numbers = why_not (lines rows) (words line) ∷ [] } =
-      sym s.ahead ∙ ap (λ (bs : List ℕ). first_row (why_not (lines rows) (words line)) n (lines bs) (words line)) (drop_of_length-le rows h) in
-      record {
-        same_row = sym (ap (λ (x : Said). x.row) q);
-        same_numbers = f ∙ ap₂ (λ (l : List ℕ) (v : ℕ). set l 0 v) (c ∙ ap (λ (k : ℕ). replicate k 0) s.long) e
-            ∙ sym (ap (λ (x : Said). padded (length before) x.numbers) q);
-      }
+module _ {rows line left : List ℕ} {n : ℕ} (s : Trying rows line left n) where
+  pub try_end : (y : Reason) → lines left ≡ [] → reason_number y ≡ why_not (lines rows) (words line)
+      → said_by (lines rows) (words line) ≡ record { row = length (lines rows); numbers = reason_number y ∷ [] }
+  unfolding first_row
+  try_end y e w =
+      let q : said_by (lines rows) (words line) ≡ record { row = n; numbers = why_not (lines rows) (words line) ∷ [] } = sym (rw e at s.ahead) in
+      let k : n ≡ length (lines rows) = omega (arith, s.many, ap length e) in
+      q ∙ ap₂ (λ (r v : ℕ). record { row = r; numbers = v ∷ [] }) k (sym w)
 
-  module _ {p : Piece} (piece : PieceAt rows from p) where
-    step : {o : Option (List ℕ)} → fitting (words (part rows from p.end)) (words line) ≡ o
-        → said_by (lines rows) (words line) ≡ or_else o n (first_row (why_not (lines rows) (words line)) (n + 1) (lines (drop p.next rows)) (words line))
+  module _ {row : List ℕ} (behind : List ℕ) (e : lines left ≡ row ∷ lines behind) where
+    step : {o : Option (List ℕ)} → fitting (words row) (words line) ≡ o
+        → or_else o n (first_row (why_not (lines rows) (words line)) (n + 1) (lines behind) (words line)) ≡ said_by (lines rows) (words line)
     unfolding first_row
-    step {o} e =
-        sym s.ahead
-        ∙ ap (λ (ls : List (List ℕ)). first_row (why_not (lines rows) (words line)) n ls (words line)) piece.first_line
-        ∙ ap₂ (λ (x : Option (List ℕ)) (k : ℕ). or_else x n (first_row (why_not (lines rows) (words line)) k (lines (drop p.next rows)) (words line))) e (sym (add-one n))
+    step {o} f = rw (sym f, add-one) (rw e at s.ahead)
 
-    module _ {clear after : List ℕ} (c : clear ≡ replicate (length now) 0) where
-      found : (o : Option (List ℕ)) → fitting (words (part rows from p.end)) (words line) ≡ o → Some after ≡ stored clear 0 o
-          → Follows (said_by (lines rows) (words line)) before after n
-      found None q e = let z : ◌≡◌ {A = ℕ} 0 1 = cc in absurd (omega arith)
-      found (Some ns) q e =
-          let a : after ≡ sets clear 0 ns = cc in
-          record {
-            same_row = sym (ap (λ (x : Said). x.row) (step q));
-            same_numbers = a ∙ ap (λ (l : List ℕ). sets l 0 ns) (c ∙ ap (λ (k : ℕ). replicate k 0) s.long)
-                ∙ sym (ap (λ (x : Said). padded (length before) x.numbers) (step q));
-          }
+    -- the numbers of a row that fits, in an array of k words
+    module _ (k : ℕ) (clear after : List ℕ) where
+      found : (o : Option (List ℕ)) → fitting (words row) (words line) ≡ o → Some after ≡ stored clear 0 o → clear ≡ replicate k 0
+          → (n < length (lines rows)) × (n ≡ (said_by (lines rows) (words line)).row) × (after ≡ padded k (said_by (lines rows) (words line)).numbers)
+      found None q f c = let z : ◌≡◌ {A = ℕ} 0 1 = cc in absurd (omega arith)
+      found (Some ns) q f c =
+          let a : after ≡ sets clear 0 ns = cc in (
+            omega (arith, s.many, ap length e),
+            ap (λ (x : Said). x.row) (step q),
+            a ∙ ap (λ (l : List ℕ). sets l 0 ns) c ∙ ap (λ (x : Said). padded k x.numbers) (step q),
+          )
 
-      more : (o : Option (List ℕ)) → fitting (words (part rows from p.end)) (words line) ≡ o → None ≡ stored clear 0 o
-          → length after ≡ length clear → Trying rows line before after p.next (n + 1)
-      more None q e k =
-          record {
-            inside = piece.inside;
-            few = omega (arith, s.few, piece.goes_on);
-            long = k ∙ ap length c ∙ length-replicate (length now) 0 ∙ s.long;
-            ahead = sym (step q);
-          }
-      more (Some ns) q e k = let z : ◌≡◌ {A = ℕ} 0 1 = cc in absurd (omega arith)
+      more : (o : Option (List ℕ)) → fitting (words row) (words line) ≡ o → None ≡ stored clear 0 o → Trying rows line behind (n + 1)
+      more None q f = record { many = omega (arith, s.many, ap length e); ahead = step q }
+      more (Some ns) q f = let z : ◌≡◌ {A = ℕ} 0 1 = cc in absurd (omega arith)
 
-      module _ {r : Bool} (f : Fits (part rows from p.end) line clear after r) where
-        said_so : {b : Bool} → r ≡ b → choose b (Some after) None ≡ stored clear 0 (fitting (words (part rows from p.end)) (words line))
-        said_so y = sym (ap (λ (t : Bool). choose t (Some after) None) y) ∙ f.fits
+    pub try_found : (k : ℕ) {clear after : List ℕ} → Fits row line clear after true → clear ≡ replicate k 0
+        → (n < length (lines rows)) × (n ≡ (said_by (lines rows) (words line)).row) × (after ≡ padded k (said_by (lines rows) (words line)).numbers)
+    try_found k {clear} {after} f = found k clear after (fitting (words row) (words line)) refl f.fits
 
-        pub try_found : r ≡ true → Follows (said_by (lines rows) (words line)) before after n
-        try_found y = found (fitting (words (part rows from p.end)) (words line)) refl (said_so y)
-
-        pub try_more : r ≡ false → length after ≡ length clear → Trying rows line before after p.next (n + 1)
-        try_more y = more (fitting (words (part rows from p.end)) (words line)) refl (said_so y)
+    pub try_more : {clear after : List ℕ} → Fits row line clear after false → Trying rows line behind (n + 1)
+    try_more {clear} {after} f = more 0 clear after (fitting (words row) (words line)) refl f.fits
 
 -- a CR at the end, or none
-pub return_nothing : (bs : List ℕ) → length bs ≡ 0 → WithoutReturn bs 0
-unfolding without_return
-return_nothing [] e = record { kept = refl; inside = omega arith }
-return_nothing (b ∷ bs) e = absurd (omega arith)
+last_is : (bs : List ℕ) → pointwise eqb (drop (length bs - 1) bs) (13 ∷ []) ≡ eqb (get_or bs (length bs - 1) 0) 13
+last_is [] = refl
+last_is (b ∷ bs) =
+    let l : List ℕ = b ∷ bs in
+    let e : drop (suc (length l - 1)) l ≡ [] = drop_of_length-le l {i = suc (length l - 1)} (omega arith) in
+    rw (drop-cons l (length l - 1) 0 (omega arith), e) (one (eqb (get_or l (length l - 1) 0) 13))
+  where
+    one : (t : Bool) → (t && true) ≡ t
+    one true = refl
+    one false = refl
 
-pub return_found : (bs : List ℕ) → get_or bs (length bs - 1) 0 ≡ 13 → WithoutReturn bs (length bs - 1)
+rest_is : (line : Bor (List ℕ)) (r : Option (Bor (List ℕ))) (long : Bor (List ℕ) → Type 0)
+    → MatchOption r (pointwise eqb (drop (length line.now - 1) line.now) (13 ∷ []) ≡ false)
+    (λ x. (pointwise eqb (drop (length line.now - 1) line.now) (13 ∷ []) ≡ true) × (x.now ≡ take (length line.now - 1) line.now) × long x)
+    → (unwrap_or r line).now ≡ without_return line.now
 unfolding without_return
-return_found bs e = record { kept = rw (eq-eqb (get_or bs (length bs - 1) 0) 13 e); inside = omega arith }
+rest_is line None long f = rw (sym (last_is line.now) ∙ f)
+rest_is line (Some x) long f = rw (sym (last_is line.now) ∙ f.0) f.1
 
-pub return_none : (bs : List ℕ) → get_or bs (length bs - 1) 0 ≢ 13 → WithoutReturn bs (length bs)
-unfolding without_return
-return_none bs e = record { kept = rw (ne_eqb (get_or bs (length bs - 1) 0) 13 e) (take-length bs); inside = omega arith }
-
--- the parts of a line have the lengths that the code cuts them to
-pub cut_length : (bs : List ℕ) (n : ℕ) → n ≤ length bs → n ≡ length (take n bs)
-cut_length bs n h = sym (length-take-le n bs h)
+pub body_rest : (line : Bor (List ℕ)) (r : Option (Bor (List ℕ))) (long : Bor (List ℕ) → Type 0) {rest : Bor (List ℕ)}
+    → MatchOption r (pointwise eqb (drop (length line.now - 1) line.now) (13 ∷ []) ≡ false)
+    (λ x. (pointwise eqb (drop (length line.now - 1) line.now) (13 ∷ []) ≡ true) × (x.now ≡ take (length line.now - 1) line.now) × long x)
+    → rest ≡ unwrap_or r line → rest.now ≡ without_return line.now
+body_rest line r long f e = ap (λ (x : Bor (List ℕ)). x.now) e ∙ rest_is line r long f
 
 -- a line is the words before its comment and its line end
-pub body_is : {bs : List ℕ} {n m : ℕ} → WithoutReturn bs n → First is_comment (take n bs) 0 m → Body bs m
+pub body_is : (line : List ℕ) {rest : List ℕ} {n : ℕ} → rest ≡ without_return line → First is_comment rest 0 n → take n rest ≡ without_comment (without_return line)
 unfolding without_comment
-body_is {bs} {n} {m} w c =
-    let q : m ≡ length (before is_comment (take n bs)) = omega (arith, c.first) in
-    let h : m ≤ n = omega (arith, c.inside, length-take-le n bs w.inside) in
-    record {
-      kept = sym (take-take m n bs h) ∙ ap (λ (k : ℕ). take k (take n bs)) q ∙ before_take is_comment (take n bs) ∙ ap (before is_comment) w.kept;
-      inside = omega (arith, w.inside);
-    }
-
-module _ (rows : List ℕ) {bs numbers after : List ℕ} {n r : ℕ} (b : Body bs n) (f : Follows (said_by (lines rows) (words (take n bs))) numbers after r) where
-  by_line : said_by (lines rows) (words (take n bs)) ≡ said rows bs
-  unfolding said
-  by_line = ap (λ (l : List ℕ). said_by (lines rows) (words l)) b.kept
-
-  pub row_by_line : r ≡ (said rows bs).row
-  row_by_line = f.same_row ∙ ap (λ (x : Said). x.row) by_line
-
-  pub numbers_by_line : after ≡ padded (length numbers) (said rows bs).numbers
-  numbers_by_line = f.same_numbers ∙ ap (λ (x : Said). padded (length numbers) x.numbers) by_line
+body_is line {rest} {n} e c =
+    let q : n ≡ length (before is_comment rest) = omega (arith, c.first) in
+    ap (λ (k : ℕ). take k rest) q ∙ before_take is_comment rest ∙ ap (before is_comment) e

@@ -1,10 +1,11 @@
 -- What the code's steps along a line and a table say. Assumes nothing.
-use Rattle.std.specs.Prelude.{ℕ, ◌≤◌, ◌≡◌, Bool, List, [], ◌∷◌, length, take, Option, Some, None}
+use Rattle.std.specs.Prelude.{ℕ, ◌<◌, ◌≡◌, Bool, List, [], ◌∷◌, length, replicate, Option, Some, None, Result, Ok, Err}
 use Rattle.std.proofs.lemmas.List.Edits.{sets}
 use Rattle.model.specs.Choice.{choose}
-use Rattle.replay_words.specs.Words.{without_comment, without_return, words}
-use Rattle.replay_lines.specs.Reasons.{Parting}
+use Rattle.replay_words.specs.Words.{words}
+use Rattle.replay_lines.specs.Reasons.{Parting, reason_number}
 use Rattle.replay_lines.specs.Line.{Said, fitting, padded}
+use Rattle.replay_lines.specs.declared.Reason.{Reason}
 use Rattle.replay_lines.specs.declared.Parting.{Parting as Parted}
 use Rattle.replay_lines.specs.declared.Taken.{Taken}
 use Rattle.replay_lines.specs.declared.Taken.TheVariants as taken
@@ -27,19 +28,10 @@ pub record Fits (row line before after : List ℕ) (r : Bool) : Type 0 where
 -- how far, and why no further
 pub record Parts (a : Parting) (r : Parted) : Type 0 where
   pub far : r.far ≡ a.far
-  pub why : r.why ≡ a.why
+  pub why : reason_number r.why ≡ a.why
 
--- the row that is said, and its numbers with zeros behind them
-pub record Follows (s : Said) (before after : List ℕ) (r : ℕ) : Type 0 where
-  pub same_row : r ≡ s.row
-  pub same_numbers : after ≡ padded (length before) s.numbers
-
--- the length of a line without a CR at its end
-pub record WithoutReturn (bs : List ℕ) (r : ℕ) : Type 0 where
-  pub kept : take r bs ≡ without_return bs
-  pub inside : r ≤ length bs
-
--- the length of what a line says
-pub record Body (bs : List ℕ) (r : ℕ) : Type 0 where
-  pub kept : take r bs ≡ without_comment (without_return bs)
-  pub inside : r ≤ length bs
+-- the row of a table that is said, and its numbers with zeros behind them; or none, and why
+abbrev pub Follows : List (List ℕ) → Said → List ℕ → List ℕ → Result ℕ Reason → Type 0
+Follows rows s before after (Ok r) = (r < length rows) × (r ≡ s.row) × (after ≡ padded (length before) s.numbers)
+Follows rows s before after (Err y) =
+    (s ≡ record { row = length rows; numbers = reason_number y ∷ [] }) × (after ≡ replicate (length before) 0)

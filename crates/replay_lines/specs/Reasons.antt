@@ -2,6 +2,8 @@
 use Rattle.std.specs.Prelude.{ℕ, suc, List, [], ◌∷◌, leb, Option, Some, None}
 use Rattle.model.specs.Choice.{choose}
 use Rattle.replay_words.specs.Words.{all_digits, words}
+use Rattle.replay_lines.specs.declared.Reason.{Reason}
+use Rattle.replay_lines.specs.declared.Reason.TheVariants as reasons
 use Rattle.replay_lines.specs.Taking.{bound, takes}
 
 -- the reasons, as numbers
@@ -16,6 +18,12 @@ too_many = 2
 
 abbrev pub too_large : ℕ
 too_large = 3
+
+abbrev pub reason_number : Reason → ℕ
+reason_number reasons.UnknownWord = unknown_word
+reason_number reasons.TooFew = too_few
+reason_number reasons.TooMany = too_many
+reason_number reasons.TooLarge = too_large
 
 -- a word behind the row's end
 unfoldable pub behind : List ℕ → ℕ

@@ -2,48 +2,53 @@
 #![tactic(auto)]
 
 ghost use Rattle.std.specs.Prelude.{◌≡◌, length, set, None};
-ghost use Rattle.replay_words.specs.Words.{lines, number, words};
-ghost use Rattle.replay_words.specs.Cursor.{told as number_told};
+ghost use Rattle.replay_words.specs.Words.{lines, number, without_comment, without_return, words};
 ghost use Rattle.replay_lines.specs.Taking.{alone, bound, taken, taken_up_to, takes as it_takes};
-ghost use Rattle.replay_lines.specs.Reasons.{behind as behind_row, instead as instead_of, parting, parts, further as the_further, why_not};
-ghost use Rattle.replay_lines.specs.Line.{said_by, said, padded};
-ghost use Rattle.replay_lines.specs.Cursor.{told, Body, Fits, Follows, Parts, WithoutReturn};
+ghost use Rattle.replay_lines.specs.Reasons.{behind as behind_row, instead as instead_of, parting, parts, further as the_further, reason_number, why_not};
+ghost use Rattle.replay_lines.specs.Line.{said_by, said};
+ghost use Rattle.replay_lines.specs.Cursor.{told, Fits, Follows, Parts};
 
-use replay_words::{Number, Piece, Word};
-
-const LARGEST: u64 = 18446744073709551615;
+use replay_words::{Lines, Words};
 
 const LARGEST_PERMISSION: u64 = 4294967295;
 
 const LARGEST_BUFFER: u64 = 81920;
 
-// The reasons.
-const UNKNOWN_WORD: u64 = 0;
+// Why a line follows no row; it is shown as its number.
+#[derive(Clone, Copy, Debug, PartialEq, Eq)]
+pub enum Reason {
+    UnknownWord = 0,
+    TooFew = 1,
+    TooMany = 2,
+    TooLarge = 3,
+}
 
-const TOO_FEW: u64 = 1;
+impl From<Reason> for u64 {
+    ghost from_gives = { λ reason n. n ≡ reason_number reason };
 
-const TOO_MANY: u64 = 2;
-
-const TOO_LARGE: u64 = 3;
+    fn from(reason: Reason) -> u64 {
+        reason as u64
+    }
+}
 
 // The largest number that a word of a row takes, if it takes one.
-fn bound_of(wanted: &[u8]) -> Number
-    ensures { number_told result ≡ bound wanted.now }
+fn bound_of(wanted: &[u8]) -> Option<u64>
+    ensures { result ≡ bound wanted.now }
 {
     if replay_words::is_word(wanted, b"N") {
-        return Number::Value(LARGEST);
+        return Some(u64::MAX);
     }
     if replay_words::is_word(wanted, b"P") {
-        return Number::Value(LARGEST_PERMISSION);
+        return Some(LARGEST_PERMISSION);
     }
     if replay_words::is_word(wanted, b"B") {
-        return Number::Value(LARGEST_BUFFER);
+        return Some(LARGEST_BUFFER);
     }
-    Number::Not
+    None
 }
 
 // What a word of a row takes from a word of a line.
-#[derive(Drop)]
+#[derive(Clone, Copy)]
 enum Taken {
     No,
     Word,
@@ -54,8 +59,8 @@ fn take_number(word: &[u8], top: u64) -> Taken
     ensures { told result ≡ alone (number top word.now) }
 {
     match replay_words::number_of(word, top) {
-        Number::Value(n) => Taken::Number(n),
-        Number::Not => Taken::No,
+        Some(n) => Taken::Number(n),
+        None => Taken::No,
     }
 }
 
@@ -72,8 +77,8 @@ fn take_word(wanted: &[u8], word: &[u8]) -> Taken
     ensures { told result ≡ taken wanted.now word.now }
 {
     match bound_of(wanted) {
-        Number::Value(top) => take_number(word, top),
-        Number::Not => take_name(wanted, word),
+        Some(top) => take_number(word, top),
+        None => take_name(wanted, word),
     }
 }
 
@@ -81,19 +86,15 @@ fn take_word(wanted: &[u8], word: &[u8]) -> Taken
 fn takes(wanted: &[u8], word: &[u8]) -> bool
     ensures { result ≡ it_takes wanted.now word.now }
 {
-    match take_word(wanted, word) {
-        Taken::No => false,
-        Taken::Word => true,
-        Taken::Number(_) => true,
-    }
+    !matches!(take_word(wanted, word), Taken::No)
 }
 
-// A number beyond the array is dropped.
-fn store(numbers: &mut [u64], at: usize, n: u64)
-    ensures { numbers.new ≡ set numbers.old at n }
+// What lies beyond the array is dropped.
+pub fn store<T: Copy>(run: &mut [T], at: usize, x: T)
+    ensures { run.new ≡ set run.old at x }
 {
-    if at < numbers.len() {
-        numbers[at] = n;
+    if at < run.len() {
+        run[at] = x;
     }
 }
 
@@ -101,19 +102,13 @@ fn store(numbers: &mut [u64], at: usize, n: u64)
 fn fits(row: &[u8], line: &[u8], numbers: &mut [u64]) -> bool
     ensures { Fits row.now line.now numbers.old numbers.new result }
 {
-    let mut i: usize = 0;
-    let mut j: usize = 0;
+    let mut words = Words(line);
     let mut count: usize = 0;
-    loop {
-        let Word { start: p, end: q } = replay_words::next_word(row, i);
-        let Word { start: s, end: e } = replay_words::next_word(line, j);
-        if p == q {
-            return s == e;
-        }
-        if s == e {
+    for wanted in Words(row) {
+        let Some(word) = words.next() else {
             return false;
-        }
-        match take_word(&row[p..q], &line[s..e]) {
+        };
+        match take_word(wanted, word) {
             Taken::No => return false,
             Taken::Word => {}
             Taken::Number(n) => {
@@ -121,77 +116,67 @@ fn fits(row: &[u8], line: &[u8], numbers: &mut [u64]) -> bool
                 count += 1;
             }
         }
-        i = q;
-        j = e;
     }
+    words.next().is_none()
 }
 
 // Why a line goes on behind a row's end.
-fn behind(word: &[u8]) -> u64
-    ensures { result ≡ behind_row word.now }
+fn behind(word: &[u8]) -> Reason
+    ensures { reason_number result ≡ behind_row word.now }
 {
     if replay_words::all_digits(word) {
-        return TOO_MANY;
+        return Reason::TooMany;
     }
-    UNKNOWN_WORD
+    Reason::UnknownWord
 }
 
 // Why a row does not take a word, given the largest number that it would have taken.
-pub fn instead(bound: Number, word: &[u8]) -> u64
-    ensures { result ≡ instead_of (number_told bound) word.now }
+pub fn instead(bound: Option<u64>, word: &[u8]) -> Reason
+    ensures { reason_number result ≡ instead_of bound word.now }
 {
-    match bound {
-        Number::Not => UNKNOWN_WORD,
-        Number::Value(_) => {
-            if replay_words::all_digits(word) {
-                return TOO_LARGE;
-            }
-            UNKNOWN_WORD
-        }
+    if bound.is_some() && replay_words::all_digits(word) {
+        return Reason::TooLarge;
     }
+    Reason::UnknownWord
 }
 
 // How many words of a line agree with a row, and what ends it there.
-#[derive(Drop)]
+#[derive(Clone, Copy)]
 struct Parting {
     far: usize,
-    why: u64,
+    why: Reason,
 }
 
 fn part_from(row: &[u8], line: &[u8]) -> Parting
     ensures { Parts (parting 0 (words row.now) (words line.now)) result }
 {
-    let mut i: usize = 0;
-    let mut j: usize = 0;
+    let mut words = Words(line);
     let mut far: usize = 0;
-    loop {
-        let Word { start: p, end: q } = replay_words::next_word(row, i);
-        let Word { start: s, end: e } = replay_words::next_word(line, j);
-        if p == q {
+    for wanted in Words(row) {
+        let Some(word) = words.next() else {
             return Parting {
                 far,
-                why: behind(&line[s..e]),
+                why: Reason::TooFew,
             };
-        }
-        if s == e {
-            return Parting { far, why: TOO_FEW };
-        }
-        if !takes(&row[p..q], &line[s..e]) {
-            let bound = bound_of(&row[p..q]);
+        };
+        if !takes(wanted, word) {
             return Parting {
                 far,
-                why: instead(bound, &line[s..e]),
+                why: instead(bound_of(wanted), word),
             };
         }
         far += 1;
-        i = q;
-        j = e;
     }
+    let why = match words.next() {
+        Some(word) => behind(word),
+        None => Reason::TooMany,
+    };
+    Parting { far, why }
 }
 
 // The one that goes further, of equals the first.
 fn further(a: Parting, b: Parting) -> Parting
-    ensures { Parts (the_further (parts a.far a.why) (parts b.far b.why)) result }
+    ensures { Parts (the_further (parts a.far (reason_number a.why)) (parts b.far (reason_number b.why))) result }
 {
     if b.far <= a.far {
         return a;
@@ -200,69 +185,44 @@ fn further(a: Parting, b: Parting) -> Parting
 }
 
 // Why a line without comment and line end follows no row.
-fn why_none(rows: &[u8], line: &[u8]) -> u64
-    ensures { result ≡ why_not (lines rows.now) (words line.now) }
+fn why_none(rows: &[u8], line: &[u8]) -> Reason
+    ensures { reason_number result ≡ why_not (lines rows.now) (words line.now) }
 {
-    let mut from: usize = 0;
     let mut best = Parting {
         far: 0,
-        why: UNKNOWN_WORD,
+        why: Reason::UnknownWord,
     };
-    while from < rows.len() {
-        let Piece { end, next } = replay_words::piece_at(rows, from);
-        best = further(best, part_from(&rows[from..end], line));
-        from = next;
+    for row in Lines(rows) {
+        best = further(best, part_from(row, line));
     }
     best.why
 }
 
-// The first row that a line without comment and line end fits; with none, their number and the reason.
-fn row_in(rows: &[u8], line: &[u8], numbers: &mut [u64]) -> usize
-    ensures { Follows (said_by (lines rows.now) (words line.now)) numbers.old numbers.new result }
+// The first row that a line without comment and line end fits.
+fn row_in(rows: &[u8], line: &[u8], numbers: &mut [u64]) -> Result<usize, Reason>
+    ensures { Follows (lines rows.now) (said_by (lines rows.now) (words line.now)) numbers.old numbers.new result }
 {
-    let mut from: usize = 0;
-    let mut row: usize = 0;
-    while from < rows.len() {
-        let Piece { end, next } = replay_words::piece_at(rows, from);
-        runs::zero64(numbers);
-        if fits(&rows[from..end], line, numbers) {
-            return row;
+    for (row, wanted) in Lines(rows).enumerate() {
+        numbers.fill(0);
+        if fits(wanted, line, numbers) {
+            return Ok(row);
         }
-        row += 1;
-        from = next;
     }
-    runs::zero64(numbers);
-    store(numbers, 0, why_none(rows, line));
-    row
+    numbers.fill(0);
+    Err(why_none(rows, line))
 }
 
-// The length of a line without a CR at its end.
-fn length_without_return(line: &[u8]) -> usize
-    ensures { WithoutReturn line.now result }
+// What a line says: it ends at a comment or a CR.
+pub fn body_of(line: &[u8]) -> &[u8]
+    ensures { result.now ≡ without_comment (without_return line.now) }
 {
-    let n = line.len();
-    if n == 0 {
-        return 0;
-    }
-    if line[n - 1] == b'\r' {
-        return n - 1;
-    }
-    n
+    let rest = line.strip_suffix(b"\r").unwrap_or(line);
+    &rest[..replay_words::comment_start(rest)]
 }
 
-// How much of a line is its words: it ends at a comment or a CR.
-pub fn body_length(line: &[u8]) -> usize
-    ensures { Body line.now result }
+// Which row of a table a line follows, its bytes given without the LF, and the numbers in it; or why it follows none, with the numbers all 0.
+pub fn row_of(rows: &[u8], line: &[u8], numbers: &mut [u64]) -> Result<usize, Reason>
+    ensures { Follows (lines rows.now) (said rows.now line.now) numbers.old numbers.new result }
 {
-    let n = length_without_return(line);
-    replay_words::comment_start(&line[..n])
-}
-
-// Which row of a table a line follows, its bytes given without the LF; with none, the number of rows, and the reason as its number.
-pub fn row_of(rows: &[u8], line: &[u8], numbers: &mut [u64]) -> usize
-    ensures { (result ≡ (said rows.now line.now).row)
-        × (numbers.new ≡ padded (length numbers.old) (said rows.now line.now).numbers) }
-{
-    let n = body_length(line);
-    row_in(rows, &line[..n], numbers)
+    row_in(rows, body_of(line), numbers)
 }

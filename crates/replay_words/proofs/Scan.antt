@@ -169,3 +169,30 @@ by_word {bs} {at} {s} {e} fs fe =
           ∙ ap₂ (λ (w : List ℕ) (ws : List (List ℕ)). w ∷ ws)
           (sym (before_take is_gap (drop s bs)) ∙ ap (λ k. take k (drop s bs)) (sym long)) (ap words behind);
     }
+
+-- a line has no more words than bytes
+words_few_more : (p : List ℕ) (ps : List (List ℕ)) → length (filled ps) ≤ length (filled (p ∷ ps))
+unfolding filled
+words_few_more [] ps = omega arith
+words_few_more (b ∷ p) ps = omega arith
+
+pub words_few : (bs : List ℕ) → length (words bs) ≤ length bs
+unfolding words pieces filled
+words_few [] = omega arith
+words_few (b ∷ bs) = one (is_gap b) (pieces bs) (words_few bs)
+  where
+    one : (t : Bool) (ps : List (List ℕ)) → length (filled ps) ≤ length bs → length (filled (joined t b ps)) ≤ suc (length bs)
+    one true ps h = omega arith
+    one false [] h = omega arith
+    one false (p ∷ ps) h = omega (arith, words_few_more p ps)
+
+-- nor a text more lines
+pub lines_few : (bs : List ℕ) → length (lines bs) ≤ length bs
+unfolding lines
+lines_few [] = omega arith
+lines_few (b ∷ bs) = one (is_end b) (lines bs) (lines_few bs)
+  where
+    one : (t : Bool) (ps : List (List ℕ)) → length ps ≤ length bs → length (joined t b ps) ≤ suc (length bs)
+    one true ps h = omega arith
+    one false [] h = omega arith
+    one false (p ∷ ps) h = omega arith

@@ -1,12 +1,12 @@
 -- `replay_lines::takes` meets its contract. Assumes nothing.
-use Rattle.replay_lines.proofs.Fitting.{takes_not, takes_word, takes_number}
+use Rattle.std.proofs.Common.{◌∙◌, ap, not}
+use Rattle.replay_lines.proofs.Fitting.{takes_is, takes_other}
 use Rattle.replay_lines.proofs.takes.Goals as goal
+use Rattle.replay_lines.proofs.takes.Goals.{in-No, in_default}
 
-pub returns-in-No : goal.returns-in-No
-returns-in-No c = search takes_not
-
-pub returns-in-Word : goal.returns-in-Word
-returns-in-Word c = search takes_word
-
-pub returns-in-Number : goal.returns-in-Number
-returns-in-Number c = search takes_number
+pub returns : goal.returns
+returns c =
+    elim c.match-matches.branch [
+      | in-No w ↦ ap not w.matches-is ∙ takes_is c.args.wanted.now c.args.word.now w.in-No.ensures
+      | in_default w ↦ ap not w.matches-is ∙ takes_other c.args.wanted.now c.args.word.now c.take_word.result c.take_word.ensures w.in_default.not-No
+    ]
