@@ -2,13 +2,11 @@
 use Prim.Native.Nat.{ℕ, ◌+◌, ◌*◌, ◌≤◌, ◌/◌}
 use native.Mathlib.Omega.{arith}
 use mathlib.Core.Path.{◌≡◌, refl, sym, ap, ◌∙◌}
-use mathlib.Core.Logic.{◌≢◌}
-use mathlib.Core.Bool.{Bool, true, false, not}
-use Rattle.std.specs.Prelude.{Option, Some, None}
+use mathlib.Core.Bool.{Bool}
+use Rattle.std.specs.Prelude.{Option, Some, None, Result, Ok, Err}
 use mathlib.Core.List.{List, [], ◌∷◌}
 use lib.ListN.{length, length-append}
 use lib.Dec.{eqb}
-use borrow.Author.Tests.{not-false}
 use Rattle.model.specs.Memory.{Mem, mem, place, stamp}
 use Rattle.model.specs.Shape.{Shape, Ways, pair, right_lengths, shape_of}
 use Rattle.model.specs.Stores.{stores}
@@ -18,39 +16,40 @@ use Rattle.model.specs.Answers.{Answer, refused}
 use Rattle.model.specs.Calling.{set_animal}
 use Rattle.model.specs.Age.{bad_grant, late}
 use Rattle.model.specs.Calls.{Outcome, enter_at, enter_block, entered, final_slot, held, move_blocks, moves_found, search_damage, set_at, set_held, stopped, vacant_place, visited}
+use Rattle.model.specs.Said.{refusal_number}
+use Rattle.model.specs.declared.Refusal.{Refusal}
 use Rattle.model.specs.Promised.{CutAs, Does, WholeAs}
 use Rattle.model.proofs.Search.{length_climb}
 use Rattle.blocks.specs.Made.{all_stores}
 use Rattle.blocks.proofs.Budget.{Few, did_all, does_as, does_refuse, few_asked, few_or, few_refuse, stores_append}
 use Rattle.looking.specs.Look.{LooksUp, Passed, early}
-use Rattle.looking.proofs.Early.{due_one, due_three, due_two, early_outcome}
+use Rattle.looking.proofs.Early.{early_outcome}
 use Rattle.looking.proofs.Looking.{look_holds, look_lacks, look_refused}
 use Rattle.vacancy.specs.Room.{Homed, entering_new}
 use Rattle.model.specs.declared.Grant.{Grant}
 use Rattle.looking.specs.declared.Looked.{Looked}
-use Rattle.looking.specs.declared.Look.TheVariants as look
 
 module _ (W : Ways) (m : Mem) (g : Grant) where
   abbrev rest : Outcome
   rest = set_at (shape_of W m) m g (held (shape_of W m) m g.animal)
 
-  -- the cut form has one number for 1, 2 and 3
-  pub set_early : {b : Bool} → b ≡ bad_grant g → {n : ℕ} → n ≡ early (right_lengths W m) g.animal b → n ≢ 0
-      → {k : ℕ} → CutAs W m (set_animal g) k m (refused n)
-  set_early eb e nz = does_refuse (early_outcome W m g.animal (bad_grant g) (rw eb at e) nz rest)
+  -- refusals 1, 2 and 3
+  pub set_early : {b : Bool} → b ≡ bad_grant g → {e : Result Unit Refusal} → e ≡ early (right_lengths W m) g.animal b → {r : Refusal} → e ≡ Err r
+      → {k : ℕ} → CutAs W m (set_animal g) k m (refused (refusal_number r))
+  set_early eb e q = does_refuse (early_outcome W m g.animal (bad_grant g) (rw eb at e) q rest)
 
   module _ (passed : Passed W m g.animal (bad_grant g)) {r : Looked} (l : LooksUp W m g.animal r) where
     pub set_homed : Homed W m g.animal r.homes
     set_homed = record { right = passed.lengths; homes_are = l.homes_are }
 
-    pub set_refused : {j k : ℕ} → r.look ≡ look.Refused j → CutAs W m (set_animal g) k m (refused j)
+    pub set_refused : {e : Refusal} {k : ℕ} → r.hit ≡ Err e → CutAs W m (set_animal g) k m (refused (refusal_number e))
     set_refused q = does_refuse (look_refused W m g.animal (bad_grant g) rest passed l q)
 
-    pub set_new : r.look ≡ look.Absent → {k : ℕ} {m' : Mem} {a : Answer} → Does (entering_new W m g) k m m' a → CutAs W m (set_animal g) k m' a
+    pub set_new : r.hit ≡ Ok None → {k : ℕ} {m' : Mem} {a : Answer} → Does (entering_new W m g) k m m' a → CutAs W m (set_animal g) k m' a
     set_new q d =
         let s = look_lacks W m g.animal (bad_grant g) rest passed l q in does_as (sym (s.0 ∙ ap (set_at (shape_of W m) m g) s.1)) d
 
-    pub set_at_held : {w : ℕ} → r.look ≡ look.At w → {k : ℕ} {c i : List ℕ} {a : Answer}
+    pub set_at_held : {w : ℕ} → r.hit ≡ Ok (Some w) → {k : ℕ} {c i : List ℕ} {a : Answer}
         → ((s : List ℕ) → Does (set_held m.items r.homes.counter (place w) g) k (mem s m.counters m.items) (mem s c i) a)
         → CutAs W m (set_animal g) k (mem m.slots c i) a
     set_at_held {w} q d =
@@ -92,32 +91,5 @@ module _ (W : Ways) (m : Mem) (g : Grant) where
   few_set_at (Some p) = few_or (late (stamp m.items p) g) (few_refuse 11) (record { few = omega arith })
 
   -- behind the last store the cut form is the whole call
-  whole : 4 * W.reach + 7 ≤ all_stores → {m' : Mem} {a : Answer} → CutAs W m (set_animal g) all_stores m' a → WholeAs W m (set_animal g) m' a
-  whole h d = did_all (few_asked W m g.animal (bad_grant g) (few_set_at (held Y m g.animal))) h d
-
-pub whole_lengths : (W : Ways) (m : Mem) {r : Bool} → r ≡ right_lengths W m → not r ≡ false → right_lengths W m ≡ true
-whole_lengths W m {r} e t = sym e ∙ not-false r t
-
-module _ (W : Ways) (few : 4 * W.reach + 7 ≤ all_stores) (m : Mem) (g : Grant) where
-  -- the whole call leaves at the first refusal that is due
-  module _ {r : Bool} (e : r ≡ right_lengths W m) where
-    pub whole_one : not r ≡ true → WholeAs W m (set_animal g) m (refused 1)
-    whole_one t = whole W m g few (does_refuse (due_one W m g.animal (bad_grant g) e t (rest W m g)))
-
-    pub whole_two : not r ≡ false → g.animal ≡ 0 → WholeAs W m (set_animal g) m (refused 2)
-    whole_two t z = whole W m g few (does_refuse (due_two W m g.animal (bad_grant g) e t z (rest W m g)))
-
-    pub whole_three : not r ≡ false → g.animal ≢ 0 → {b : Bool} → b ≡ bad_grant g → b ≡ true → WholeAs W m (set_animal g) m (refused 3)
-    whole_three t nz eb y = whole W m g few (does_refuse (due_three W m g.animal (bad_grant g) e t nz eb y (rest W m g)))
-
-  module _ (passed : Passed W m g.animal (bad_grant g)) {r : Looked} (l : LooksUp W m g.animal r) where
-    pub whole_refused : {j : ℕ} → r.look ≡ look.Refused j → WholeAs W m (set_animal g) m (refused j)
-    whole_refused q = whole W m g few (set_refused W m g passed l q)
-
-    pub whole_new : r.look ≡ look.Absent → {m' : Mem} {a : Answer} → Does (entering_new W m g) all_stores m m' a → WholeAs W m (set_animal g) m' a
-    whole_new q d = whole W m g few (set_new W m g passed l q d)
-
-    pub whole_held : {w : ℕ} → r.look ≡ look.At w → {c i : List ℕ} {a : Answer}
-        → ((s : List ℕ) → Does (set_held m.items r.homes.counter (place w) g) all_stores (mem s m.counters m.items) (mem s c i) a)
-        → WholeAs W m (set_animal g) (mem m.slots c i) a
-    whole_held q d = whole W m g few (set_at_held W m g passed l q d)
+  pub set_whole : 4 * W.reach + 7 ≤ all_stores → {m' : Mem} {a : Answer} → CutAs W m (set_animal g) all_stores m' a → WholeAs W m (set_animal g) m' a
+  set_whole h d = did_all (few_asked W m g.animal (bad_grant g) (few_set_at (held Y m g.animal))) h d

@@ -1,26 +1,33 @@
 -- `setting::set_cut` meets its contract. Assumes nothing.
-use Rattle.setting.proofs.Setting.{set_early, set_homed, set_refused, set_new, set_at_held}
-use Rattle.looking.proofs.Early.{early_passed, passed_lengths}
+use mathlib.Core.Path.{ap, ◌∙◌}
+use Rattle.std.specs.Prelude.{Ok}
+use Rattle.std.proofs.lemmas.Result.{err_from_is_err_and}
+use Rattle.model.specs.Shape.{four}
+use Rattle.looking.proofs.Early.{early_passed}
 use Rattle.looking.proofs.Looking.{look_inside}
+use Rattle.setting.proofs.Setting.{set_at_held, set_early, set_new, set_refused}
 use Rattle.setting.proofs.set_cut.Goals as goal
 
-pub returns-then-no-ne0 : goal.returns-then-no-ne0
-returns-then-no-ne0 c = search set_early
+pub returns-in_err-refused_early : goal.returns-in_err-refused_early
+returns-in_err-refused_early c =
+    let p = err_from_is_err_and c.from_residual.result c.from_residual.ensures.1 in
+    rw (p.1, p.2) (set_early four _ c.args.g c.is_bad_grant-bad.ensures c.refused_early.ensures c.in_err-refused_early.was)
 
-pub look_up-looked-requires : goal.look_up-looked-requires
-look_up-looked-requires c = search passed_lengths
-
-pub enter_new-requires : goal.enter_new-requires
-enter_new-requires c = search (set_homed, early_passed)
+pub returns-in_err-looked : goal.returns-in_err-looked
+returns-in_err-looked c =
+    let p = err_from_is_err_and c.from_residual-in_err-looked.result c.from_residual-in_err-looked.ensures.1 in
+    let passed = early_passed four _ _ _ c.is_bad_grant-bad.ensures c.refused_early.ensures c.in_ok-refused_early.was in
+    rw (p.1, p.2) (set_refused four _ c.args.g passed c.look_up-looked.ensures c.in_err-looked.was)
 
 pub set_held-requires : goal.set_held-requires
-set_held-requires c = search look_inside
+set_held-requires c = look_inside four _ _ _ _ c.look_up-looked.ensures (c.in_ok-looked.was ∙ ap Ok c.in-Some.is)
 
-pub returns-in-Refused : goal.returns-in-Refused
-returns-in-Refused c = search (set_refused, early_passed)
+pub returns-in-None : goal.returns-in-None
+returns-in-None c =
+    let passed = early_passed four _ _ _ c.is_bad_grant-bad.ensures c.refused_early.ensures c.in_ok-refused_early.was in
+    set_new four _ c.args.g passed c.look_up-looked.ensures (c.in_ok-looked.was ∙ ap Ok c.in-None.is) c.enter_new.ensures
 
-pub returns-in-Absent : goal.returns-in-Absent
-returns-in-Absent c = search (set_new, early_passed)
-
-pub returns-in-At : goal.returns-in-At
-returns-in-At c = search (set_at_held, early_passed)
+pub returns-in-Some : goal.returns-in-Some
+returns-in-Some c =
+    let passed = early_passed four _ _ _ c.is_bad_grant-bad.ensures c.refused_early.ensures c.in_ok-refused_early.was in
+    set_at_held four _ c.args.g passed c.look_up-looked.ensures (c.in_ok-looked.was ∙ ap Ok c.in-Some.is) c.set_held.ensures

@@ -6,4 +6,4 @@ pub returns-then-is_late : goal.returns-then-is_late
 returns-then-is_late c = search held_late
 
 pub returns : goal.returns
-returns c = search held_timely
+returns c = held_timely c.args.homes.counter c.args.w c.args.g c.args.items.now c.is_late.ensures c.if-is_late.false c.update_entry.ensures
