@@ -2,40 +2,32 @@
 use Prim.Native.Nat.{ℕ, zero, suc, ◌+◌, ◌*◌, ◌≤◌}
 use native.Mathlib.Omega.{arith}
 use mathlib.Core.Path.{◌≡◌, refl, sym, ◌∙◌}
-use mathlib.Core.Logic.{◌≢◌}
+use Rattle.std.specs.Prelude.{Result, Ok}
 use mathlib.Core.List.{List, [], ◌∷◌, ◌++◌, append_assoc}
 use lib.ListN.{length, get_or, take}
 use lib.Seq.{length-take-le}
 use lib.IntN.{ℤ}
-use borrow.Author.Tests.{ne_eqb}
 use mir.Syntax.{w64}
 use mir.Val.{SFits, of_z, to_z}
 use mir.ValLaws.{to_z-of_z}
 use Rattle.model.specs.Memory.{Mem}
 use Rattle.model.specs.Moves.{no_move}
-use Rattle.model.specs.Answers.{planned, record_numbers, refused}
-use Rattle.model.specs.Said.{said_plan, said_reading}
+use Rattle.model.specs.Answers.{planned, record_numbers}
+use Rattle.model.specs.Said.{said_reading}
 use Rattle.model.specs.declared.Reading.{Reading}
 use Rattle.model.specs.declared.Reading.TheVariants as reading
+use Rattle.model.specs.declared.Refusal.{Refusal}
 use Rattle.model.specs.declared.MoveRecord.{MoveRecord}
-use Rattle.model.specs.declared.Plan.{Plan}
-use Rattle.model.specs.declared.Planning.TheVariants as planning
-use Rattle.model.specs.declared.Listing.{Listing}
-use Rattle.model.specs.declared.Listing.TheVariants.{Listed}
 use Rattle.buffer.specs.Put.{Put}
 use Rattle.buffer.proofs.Putting.{put_both}
 use Rattle.replay_print.specs.Text.{bytes}
 use Rattle.replay_print.specs.Print.{line, numbered, signed_line, signed_of, told}
-use Rattle.replay_answers.specs.Text.{Counted, dump, not_understood, reason, text}
+use Rattle.replay_answers.specs.Text.{dump, not_understood, reason, text}
 
 -- what is known is told as itself
 pub as_known : {A : Type 0} (f : A → List ℕ) {said known : A} {at r : ℕ} {before after : List ℕ} → said ≡ known → Put (f known) at before after r
     → Put (f said) at before after r
 as_known f e p = rw e p
-
-pub as_beside : {A B : Type 0} (f : A → B → List ℕ) (b : B) {said known : A} {at r : ℕ} {before after : List ℕ} → said ≡ known
-    → Put (f known b) at before after r → Put (f said b) at before after r
-as_beside f b = as_known (λ s. f s b)
 
 -- words and the rest of a line with a signed number are the line
 signed_behind : (words : List ℕ) (z : ℤ) → signed_line words z ≡ words ++ signed_line [] z
@@ -67,49 +59,20 @@ module _ {at r : ℕ} {before after : List ℕ} where
   short k words p h = omega (arith, p.next)
 
   -- a reading that tells how long is left, as the code holds the number
-  module _ {said : Reading} {z : ℤ} (f : SFits w64 z) where
-    pub told_fresh : {middle : List ℕ} {s v : ℕ} → said ≡ reading.Fresh v z → Put (numbered (bytes "fresh") v) at before middle s
-        → Put (signed_line [] (to_z w64 (of_z w64 z))) s middle after r → Put (text (said_reading said)) at before after r
-    told_fresh {v = v} e p q = rw (e, signed_behind (numbered (bytes "fresh") v) z) (put_both p (rw (to_z-of_z w64 z f) at q))
-
-    pub told_old : said ≡ reading.Old z → Put (signed_line (bytes "old") (to_z w64 (of_z w64 z))) at before after r → Put (text (said_reading said)) at before after r
-    told_old e q = rw e (rw (to_z-of_z w64 z f) at q)
+  pub told_fresh : {said : Result Reading Refusal} {told : Reading} {middle : List ℕ} {s v : ℕ} {z : ℤ} → SFits w64 z → said ≡ Ok told → told ≡ reading.Fresh v z
+      → Put (numbered (bytes "fresh") v) at before middle s → Put (signed_line [] (to_z w64 (of_z w64 z))) s middle after r
+      → Put (text (said_reading said)) at before after r
+  told_fresh {v = v} {z} f e d p q = rw (e, d, signed_behind (numbered (bytes "fresh") v) z) (put_both p (rw (to_z-of_z w64 z f) at q))
 
   -- a plan, as the code holds its numbers
   pub told_numbers : (vs : List MoveRecord) (n p i : ℕ) → length vs ≡ 4 → Put (told (bytes "planned") (take (2 + 3 * n) (p ∷ i ∷ of_four vs))) at before after r
       → Put (text (planned (take n vs) p i)) at before after r
   told_numbers vs n p i l q = let f : 2 + 3 * n ≡ suc (suc (3 * n)) = omega arith in rw (← first_few vs n, ← all_four vs l) (rw f at q)
 
-  module _ (b : Plan) where
-    pub told_plan : b.told ≡ planning.Planned → Put (text (planned (take b.count b.moves) b.place b.slot)) at before after r
-        → Put (text (said_plan b)) at before after r
-    told_plan e p = rw e p
-
-    pub told_no_plan : {n : ℕ} → b.told ≡ planning.Refused n → Put (text (refused n)) at before after r → Put (text (said_plan b)) at before after r
-    told_no_plan e p = rw e p
-
-  pub put_line_number : {first second : List ℕ} {s t : ℕ} (n y : ℕ) → Put (numbered (bytes "line") n) at before first s
-      → Put (bytes ": not understood: ") s first second t → Put (line (reason y)) t second after r → Put (not_understood n y) at before after r
+  pub put_line_number : {first second words : List ℕ} {s t : ℕ} (n y : ℕ) → words ≡ reason y → Put (numbered (bytes "line") n) at before first s
+      → Put (bytes ": not understood: ") s first second t → Put (line words) t second after r → Put (not_understood n y) at before after r
   unfolding numbered
-  put_line_number n y p q l = put_both (put_both p q) l
-
-  -- the reasons, in the order of the tests
-  module _ (y : ℕ) where
-    pub reason_word : Put (line (bytes "unknown word")) at before after r → y ≡ 0 → Put (line (reason y)) at before after r
-    unfolding reason
-    reason_word p e = rw e p
-
-    pub reason_few : Put (line (bytes "too few numbers")) at before after r → y ≡ 1 → Put (line (reason y)) at before after r
-    unfolding reason
-    reason_few p e = rw e p
-
-    pub reason_many : Put (line (bytes "too many numbers")) at before after r → y ≡ 2 → Put (line (reason y)) at before after r
-    unfolding reason
-    reason_many p e = rw e p
-
-    pub reason_large : Put (line (bytes "number too large")) at before after r → y ≢ 0 → y ≢ 1 → y ≢ 2 → Put (line (reason y)) at before after r
-    unfolding reason
-    reason_large p z o t = rw (ne_eqb y 0 z, ne_eqb y 1 o, ne_eqb y 2 t) p
+  put_line_number n y e p q l = rw (← e) (put_both (put_both p q) l)
 
 -- the three runs of a dump
 pub put_runs : {at r s t : ℕ} {before middle next after : List ℕ} (m : Mem) → Put (told (bytes "slots") m.slots) at before middle r
@@ -133,7 +96,3 @@ module _ (at n : ℕ) (run : List ℕ) where
 
   pub plan_short : {r : ℕ} → r ≤ at + 7 + 21 * length (take n run) + 1 → n ≤ 14 → r ≤ at + 384
   plan_short k h = omega (arith, front_short n run)
-
--- the records that a list counts are there
-pub counted_in : {said : Listing} {n : ℕ} (bs : List ℕ) → said ≡ Listed n → Counted said bs → 20 * n ≤ length bs
-counted_in bs e h = rw e at h

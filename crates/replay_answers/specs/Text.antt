@@ -1,10 +1,10 @@
 -- The answers of the table as the replay program's lines, in bytes with the LF. Assumes nothing.
-use Rattle.std.specs.Prelude.{ℕ, ◌*◌, ◌≤◌, Bool, true, false, List, [], ◌∷◌, ◌++◌, length, eqb}
+use Rattle.std.specs.Prelude.{ℕ, Bool, true, false, List, [], ◌∷◌, ◌++◌, eqb, Result, Ok, Err}
 use Rattle.model.specs.Choice.{choose}
 use Rattle.model.specs.Memory.{Mem}
 use Rattle.model.specs.Answers.{Answer, refused, absent, fresh, old, ahead, stored, deleted, evicted, started, listed, at_place, planned, move_made, entry_made, record_numbers}
-use Rattle.model.specs.declared.Listing.{Listing}
-use Rattle.model.specs.declared.Listing.TheVariants as list
+use Rattle.model.specs.Said.{refusal_number}
+use Rattle.model.specs.declared.Refusal.{Refusal}
 use Rattle.judgement.specs.Verdict.{Verdict, sound, broken}
 use Rattle.replay_print.specs.Text.{bytes}
 use Rattle.replay_print.specs.Print.{decimal_of, line, numbered, record_lines, signed_line, told}
@@ -26,10 +26,10 @@ text (planned vs p i) = told (bytes "planned") (p ∷ i ∷ record_numbers vs)
 text move_made = line (bytes "moved")
 text entry_made = line (bytes "entered")
 
--- the records of a list are there, 20 bytes each
-abbrev pub Counted : Listing → List ℕ → Type 0
-Counted (list.Listed n) bs = 20 * n ≤ length bs
-Counted (list.Refused n) bs = Unit {0}
+-- the line of an answer that is only that something is done, by its word
+abbrev pub done_line : List ℕ → Result Unit Refusal → List ℕ
+done_line word (Ok _) = line word
+done_line word (Err r) = text (refused (refusal_number r))
 
 -- why a line says nothing that the language has
 unfoldable pub reason : ℕ → List ℕ

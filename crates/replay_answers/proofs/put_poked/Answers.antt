@@ -4,8 +4,5 @@ use Rattle.replay_answers.specs.Text.{poke_told}
 use borrow.Author.Rules.{rules}
 use Rattle.replay_answers.proofs.put_poked.Goals as goal
 
-pub returns-then-poked : goal.returns-then-poked
-returns-then-poked c = (search (as_known poke_told), search (short, rules))
-
-pub returns : goal.returns
-returns c = (search (as_known poke_told), search (short, rules))
+pub returns-else-poked : goal.returns-else-poked
+returns-else-poked c = (search (as_known poke_told), search (short, rules))
