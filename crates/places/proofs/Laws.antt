@@ -1,6 +1,6 @@
 -- Laws of the walks: one for each way through a turn of a loop. Assumes nothing.
 use Prim.Native.Nat.{ℕ, ◌+◌, ◌*◌, ◌<◌, suc, ◌≤◌, ◌-◌, ◌/◌, zero}
-use native.Mathlib.Nat.{add-zero, sub-zero, mul-add}
+use native.Mathlib.Nat.{add-zero, sub-zero}
 use native.Mathlib.Omega.{arith}
 use native.Mathlib.Decide.{dec_lt}
 use mathlib.Core.Path.{◌≡◌, refl, sym, ◌∙◌}
@@ -8,14 +8,14 @@ use mathlib.Core.Logic.{dite}
 use mathlib.Core.Bool.{Bool, true, false, not, ◌&&◌, ◌||◌}
 use Rattle.std.specs.Prelude.{Option, Some, None}
 use mathlib.Core.List.{List}
-use lib.ListN.{get_or}
 use lib.Dec.{eqb, leb}
-use borrow.Author.Tests.{lt-ltb, le-ltb, not-true}
+use borrow.Author.Tests.{lt-ltb, le-ltb}
 use Rattle.model.specs.Choice.{choose, first, range}
 use Rattle.model.specs.Memory.{animal, recent}
 use Rattle.model.specs.Clock.{next_hand, seek_victim, takes, victim}
-use Rattle.model.proofs.Lent.{and_is}
-use Rattle.places.specs.Walks.{first_from, first_with, none_with, scanned, without}
+use Rattle.std.specs.List.{list_any, range_with_len}
+use Rattle.model.proofs.ListLaws.{true_false}
+use Rattle.places.specs.Walks.{first_from, first_with, scanned}
 
 -- the hand one place on, or back at 0
 pub hand_on : (m h : ℕ) → h + 1 < m → h + 1 ≡ next_hand m h
@@ -74,44 +74,33 @@ pub record NoneYet (m : ℕ) (l : List ℕ) (x q : ℕ) : Type 0 where
 pub none_yet : (m : ℕ) (l : List ℕ) (x : ℕ) → NoneYet m l x 0
 none_yet m l x = record { same = let f : m - 0 ≡ m = omega arith in rw f }
 
+abbrev has : List ℕ → ℕ → ℕ → Bool
+has l x q = eqb (animal l q) x
+
 -- one place without the number is passed, or several at once
-by_other : {m x q : ℕ} {l : List ℕ} → NoneYet m l x q → q < m → without l x q ≡ true → NoneYet m l x (q + 1)
+by_other : {m x q : ℕ} {l : List ℕ} → NoneYet m l x q → q < m → has l x q ≡ false → NoneYet m l x (q + 1)
 unfolding first range
-by_other {m} {x} {q} {l} s h t =
+by_other {m} {x} {q} {l} s h n =
     let e : m - q ≡ suc (m - (q + 1)) = omega arith in
     let k : q + 1 ≡ suc q = omega arith in
-    let n : eqb (animal l q) x ≡ false = not-true (eqb (animal l q) x) t in
     record { same = sym (rw (e, n, ← k)) ∙ s.same }
 
-by_others : (n : ℕ) {m x q : ℕ} {l : List ℕ} → NoneYet m l x q → q + n ≤ m → none_with l x q n ≡ true → NoneYet m l x (q + n)
-unfolding none_with
+by_others : (n : ℕ) {m x q : ℕ} {l : List ℕ} → NoneYet m l x q → q + n ≤ m → list_any (has l x) (range_with_len q n) ≡ false → NoneYet m l x (q + n)
 by_others zero s h t = rw add-zero s
 by_others (suc n) {m} {x} {q} {l} s h t =
-    let b = and_is (none_with l x q n) (without l x (q + n)) t in
-    let e : q + suc n ≡ q + n + 1 = omega arith in
-    rw e (by_other (by_others n s (omega arith) b.0) (omega arith) b.1)
+    let b = neither (has l x q) (list_any (has l x) (range_with_len (q + 1) n)) t in
+    let e : q + suc n ≡ q + 1 + n = omega arith in
+    rw e (by_others n (by_other s (omega arith) b.0) (omega arith) b.1)
+  where
+    neither : (a b : Bool) → (a || b) ≡ false → (a ≡ false) × (b ≡ false)
+    neither true b e = true_false refl e
+    neither false b e = (refl, e)
 
--- a turn that passes sixteen places, eight and eight
-pub by_turn : {m x t : ℕ} {l : List ℕ} {a b : Bool} → NoneYet m l x (16 * t) → t < m / 16 → a ≡ none_with l x (16 * t) 8
-    → b ≡ none_with l x (16 * t + 8) 8 → (a && b) ≡ true → NoneYet m l x (16 * (t + 1))
-by_turn {t = t} {a = a} {b = b} s h e f q =
-    let t' = and_is a b q in
-    let g : 16 * (t + 1) ≡ 16 * t + 8 + 8 = omega arith in
-    rw g (by_others 8 (by_others 8 s (omega arith) (sym e ∙ t'.0)) (omega arith) (sym f ∙ t'.1))
+-- a turn that passes sixteen places
+pub by_turn : {m x t : ℕ} {l : List ℕ} {b : Bool} → NoneYet m l x (16 * t) → t < m / 16 → b ≡ list_any (has l x) (range_with_len (16 * t) 16)
+    → b ≡ false → NoneYet m l x (16 * (t + 1))
+by_turn {t = t} s h e q = let g : 16 * (t + 1) ≡ 16 * t + 16 = omega arith in rw g (by_others 16 s (omega arith) (sym e ∙ q))
 
 -- where no place so far has it, what is found in the rest is what is asked for
 pub by_rest : {m x p : ℕ} {l : List ℕ} {o : Option ℕ} → NoneYet m l x p → o ≡ first_from m l x p → o ≡ first_with m l x
 by_rest s e = e ∙ s.same
-
--- the tests of eight places, as the code makes them: the animal words are four words apart
-abbrev other_at : List ℕ → ℕ → ℕ → Bool
-other_at l x i = not (eqb (get_or l i 0) x)
-
-pub eight_tests : (l : List ℕ) (x p : ℕ)
-    → (other_at l x (4 * p) && other_at l x (4 * p + 4) && other_at l x (4 * p + 8) && other_at l x (4 * p + 12)
-    && other_at l x (4 * p + 16) && other_at l x (4 * p + 20) && other_at l x (4 * p + 24) && other_at l x (4 * p + 28))
-    ≡ none_with l x p 8
-unfolding none_with
-eight_tests l x p =
-    let at : (k : ℕ) → 4 * (p + k) ≡ 4 * p + 4 * k = λ k. mul-add 4 p k in
-    rw (at 0, at 1, at 2, at 3, at 4, at 5, at 6, at 7, add-zero)

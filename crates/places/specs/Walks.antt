@@ -1,5 +1,5 @@
 -- What the code's answers say, in the words of the definitions, and the parts of a walk over the places. Assumes nothing.
-use Rattle.std.specs.Prelude.{ℕ, ◌+◌, suc, ◌-◌, zero, Bool, true, not, ◌&&◌, List, eqb, Option, Some, None}
+use Rattle.std.specs.Prelude.{ℕ, ◌-◌, List, eqb, Option, Some, None}
 use Rattle.model.specs.Choice.{first, range}
 use Rattle.model.specs.Memory.{animal}
 use Rattle.model.specs.Clock.{Victim}
@@ -9,14 +9,6 @@ use Rattle.places.specs.declared.Victim.{Victim as Found}
 abbrev pub scanned : Option Found → Option Victim
 scanned (Some v) = Some (record { place = v.place; looked = v.looked })
 scanned None = None
-
--- place q has another number than x; none of the n places from p on has x
-abbrev pub without : List ℕ → ℕ → ℕ → Bool
-without l x q = not (eqb (animal l q) x)
-
-unfoldable pub none_with : List ℕ → ℕ → ℕ → ℕ → Bool
-none_with l x p zero = true
-none_with l x p (suc n) = none_with l x p n && without l x (p + n)
 
 -- the first of the places p to m - 1 that has the number x; and of all m places
 abbrev pub first_from : ℕ → List ℕ → ℕ → ℕ → Option ℕ

@@ -4,7 +4,7 @@
 ghost use Rattle.std.specs.Prelude.{◌≡◌, ◌+◌, ◌*◌, ◌<◌, ◌≤◌, length};
 ghost use Rattle.model.specs.Clock.{next_hand, victim};
 ghost use Rattle.model.specs.Calls.{vacant_place};
-ghost use Rattle.places.specs.Walks.{scanned, none_with, first_from, first_with};
+ghost use Rattle.places.specs.Walks.{scanned, first_from, first_with};
 
 // The clock hand, by value.
 #[derive(Clone, Copy)]
@@ -57,22 +57,6 @@ pub fn find_victim(items: &[u64], m: usize, hand: Hand) -> Option<Victim>
     None
 }
 
-// None of the eight places from p on has the number, as one expression: the compiler does not unroll a loop that may stop at any place.
-fn eight_without(items: &[u64], p: usize, x: u64) -> bool
-    requires { 4 * p + 32 ≤ length items.now }
-    ensures { result ≡ none_with items.now x p 8 }
-{
-    let at = 4 * p;
-    (items[at] != x)
-        & (items[at + 4] != x)
-        & (items[at + 8] != x)
-        & (items[at + 12] != x)
-        & (items[at + 16] != x)
-        & (items[at + 20] != x)
-        & (items[at + 24] != x)
-        & (items[at + 28] != x)
-}
-
 // The first of the places from p on that has the number, place by place.
 fn place_from(items: &[u64], m: usize, p: usize, x: u64) -> Option<usize>
     requires { (m ≤ 4096) × (length items.now ≡ 4 * m) }
@@ -81,7 +65,8 @@ fn place_from(items: &[u64], m: usize, p: usize, x: u64) -> Option<usize>
     (p..m).find(|&q| items[4 * q] == x)
 }
 
-// The first of m places that has the number: sixteen a turn, and place by place where one of them has it or fewer are left.
+// The first of m places that has the number: sixteen a turn, a test which the compiler unrolls, as it does not a walk that may end at any
+// place; then place by place where one of them has it or fewer are left.
 #[inline(always)]
 pub fn place_of(items: &[u64], m: usize, x: u64) -> Option<usize>
     requires { (m ≤ 4096) × (length items.now ≡ 4 * m) }
@@ -89,9 +74,7 @@ pub fn place_of(items: &[u64], m: usize, x: u64) -> Option<usize>
 {
     for turn in 0..m / 16 {
         let p = 16 * turn;
-        let near = eight_without(items, p, x);
-        let far = eight_without(items, p + 8, x);
-        if !(near & far) {
+        if (p..p + 16).any(|q| items[4 * q] == x) {
             return place_from(items, m, p, x);
         }
     }
