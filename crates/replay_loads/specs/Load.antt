@@ -4,6 +4,8 @@ use Rattle.model.specs.Choice.{choose}
 use Rattle.replay_words.specs.Words.{number, same, without_comment, without_return, words}
 use Rattle.replay_print.specs.Text.{bytes}
 use Rattle.replay_lines.specs.Reasons.{instead}
+use Rattle.replay_loads.specs.declared.Run.{Run}
+use Rattle.replay_loads.specs.declared.Run.TheVariants as runs
 
 -- words that are all numbers; or why the first that is none is none
 pub data Weighed : Type 0 where
@@ -24,6 +26,12 @@ weighed top (w ∷ ws) = in_front top w (number top w) (weighed top ws)
 -- the run that a word names: 0 slots, 1 counters, 2 items; 3 is none
 unfoldable pub run_named : List ℕ → ℕ
 run_named w = choose (same w (bytes "slots")) 0 (choose (same w (bytes "counters")) 1 (choose (same w (bytes "items")) 2 3))
+
+-- a run of a table as its number
+abbrev pub run_number : Run → ℕ
+run_number runs.Slots = 0
+run_number runs.Counters = 1
+run_number runs.Items = 2
 
 -- the largest word of a run
 abbrev pub top_of : ℕ → ℕ

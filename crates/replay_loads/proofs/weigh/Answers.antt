@@ -1,15 +1,19 @@
--- `replay_loads::weigh` meets its contract: the words behind here weigh the rest. Assumes nothing.
+-- `replay_loads::weigh` meets its contract: what is left to be weighed comes to the weight. Assumes nothing.
+use Rattle.std.proofs.Common.{ap, arith, length}
 use Rattle.replay_loads.proofs.Loads.{weigh_first, weigh_end, weigh_bad, weigh_more}
 use Rattle.replay_loads.proofs.weigh.Goals as goal
 
-pub loop-from-init : goal.loop-from-init
-loop-from-init c = search weigh_first
+pub loop-word-init : goal.loop-word-init
+loop-word-init c = rw c.into_iter-word-iterator.ensures.into_iter_gives (weigh_first c.args.line.0.now c.args.top)
 
-pub returns-then-start-end : goal.returns-then-start-end
-returns-then-start-end c = search weigh_end
+pub overflow_add-count : goal.overflow_add-count
+overflow_add-count c = omega (arith, c.loop-word.invariant.few, ap length c.in-Some.ensures.steps)
 
-pub returns-in-Not : goal.returns-in-Not
-returns-in-Not c = search weigh_bad
+pub loop-word-preserved : goal.loop-word-preserved
+loop-word-preserved c = weigh_more c.loop-word.invariant _ c.in-Some.ensures.steps c.in-Some-number_of.ensures
 
-pub loop-from-preserved : goal.loop-from-preserved
-loop-from-preserved c = search weigh_more
+pub returns-in-None-number_of : goal.returns-in-None-number_of
+returns-in-None-number_of c = weigh_bad c.loop-word.invariant _ c.in-Some.ensures.steps c.instead.result c.in-None-number_of.ensures c.instead.ensures
+
+pub returns : goal.returns
+returns c = weigh_end c.loop-word.invariant c.in-None.ensures.steps.0

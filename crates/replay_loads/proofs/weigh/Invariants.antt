@@ -1,10 +1,5 @@
-use Prim.Native.Nat.{◌-◌}
-use lib.ListN.{length}
 use Rattle.replay_loads.proofs.Loads.{Weighing}
 use Rattle.replay_loads.proofs.weigh.Given as goal
 
-abbrev pub invariant-loop-from : goal.invariant-loop-from
-invariant-loop-from l = Weighing l.line l.top l.from l.at l.count
-
-abbrev pub decreases-loop-from : goal.decreases-loop-from
-decreases-loop-from l = length l.line - l.at
+abbrev pub invariant-loop-word : goal.invariant-loop-word
+invariant-loop-word l = Weighing l.fn.line.0.now l.word-iterator.0.now l.top l.count
