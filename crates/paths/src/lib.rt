@@ -10,6 +10,9 @@ ghost use Rattle.paths.specs.Path.{BackFrom, room_at, room_from};
 
 use model::{MoveRecord, NO_MOVE, Refusal};
 
+// An entry of the visit queue: the bucket of a visit. What put it into the queue is told by its position.
+pub type Entry = u16;
+
 // Room, after so many visits: the first `count` records are the moves, the far end first, and `slot` is free after them. Four records and a
 // count, no Vec: a call has no heap, and C's record of a plan has four.
 #[derive(Clone, Copy)]
@@ -21,11 +24,11 @@ pub struct Found {
 }
 
 // The bucket that a word in bucket b leads to. A bucket's number fits 16 bits: there are at most 2,048.
-pub fn child(b: u32, w: u32, n: u32) -> u16
+pub fn child(b: u32, w: u32, n: u32) -> Entry
     requires { Size n × (b < n) }
     ensures { result ≡ other_bucket n (tag w) b }
 {
-    hashing::other_of(b, w / 65536, n) as u16
+    hashing::other_of(b, w / 65536, n) as Entry
 }
 
 // All four words of bucket b are read before any is judged.
@@ -61,7 +64,7 @@ pub fn room_at_home(b: u32, s: usize) -> Found
 }
 
 // Slot s of bucket b.
-fn slot_in(b: u16, s: usize) -> usize
+fn slot_in(b: Entry, s: usize) -> usize
     requires { s < 4 }
     ensures { result ≡ b * 4 + s }
 {
@@ -69,7 +72,7 @@ fn slot_in(b: u16, s: usize) -> usize
 }
 
 // Room in slot s of the bucket at position v of the queue: the moves back to a home bucket.
-pub fn path_back(queue: &[u16; 682], slots: &[u32], v: usize, s: usize) -> Found
+pub fn path_back(queue: &[Entry; 682], slots: &[u32], v: usize, s: usize) -> Found
     requires { BackFrom slots.now queue.now v s }
     ensures { (n : ℕ) → result ≡ room_from four n slots.now queue.now v s }
 {
