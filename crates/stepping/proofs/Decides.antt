@@ -1,6 +1,7 @@
 -- Each contract decides its call: any two outcomes that it allows are equal. Assumes nothing.
 use Prim.Native.Nat.{ℕ}
 use mathlib.Core.Path.{◌≡◌, sym, ◌∙◌}
+use Rattle.std.specs.Prelude.{Result}
 use Rattle.model.specs.Memory.{Mem}
 use Rattle.model.specs.Shape.{Ways}
 use Rattle.model.specs.Calling.{step_enter, step_move}
@@ -9,9 +10,9 @@ use Rattle.model.specs.Promised.{WholeAs}
 use Rattle.model.proofs.Said.{entry_one, move_one}
 use Rattle.model.specs.declared.Grant.{Grant}
 use Rattle.model.specs.declared.MoveRecord.{MoveRecord}
-use Rattle.model.specs.declared.Stepping.{Stepping}
+use Rattle.model.specs.declared.Refusal.{Refusal}
 
-module _ (W : Ways) (m m' m'' : Mem) (g : Grant) (r r' : Stepping) where
+module _ (W : Ways) (m m' m'' : Mem) (g : Grant) (r r' : Result Unit Refusal) where
   pub decides_step_move : (v : MoveRecord) → WholeAs W m (step_move g v) m' (said_move r) → WholeAs W m (step_move g v) m'' (said_move r') → (r ≡ r') × (m' ≡ m'')
   decides_step_move v d d' = (move_one r r' (d.told ∙ sym d'.told), d.left ∙ sym d'.left)
 

@@ -2,9 +2,8 @@
 use Prim.Native.Nat.{ℕ, ◌+◌, ◌*◌, ◌/◌, ◌^◌, ◌<◌, ◌≤◌}
 use native.Mathlib.Omega.{arith}
 use mathlib.Core.Path.{◌≡◌, refl, sym, ap, ◌∙◌}
-use mathlib.Core.Logic.{◌≢◌}
 use mathlib.Core.Bool.{Bool, true, false, not, ◌&&◌}
-use Rattle.std.specs.Prelude.{None}
+use Rattle.std.specs.Prelude.{Some, None, Result, Ok, Err}
 use mathlib.Core.List.{List, [], ◌∷◌}
 use lib.ListN.{length, get_or}
 use borrow.Author.Tests.{le-ltb, lt-ltb, not-false, not-true}
@@ -16,6 +15,8 @@ use Rattle.model.specs.Calling.{step_enter}
 use Rattle.model.specs.Answers.{Answer, entry_made, refused}
 use Rattle.model.specs.Age.{bad_grant}
 use Rattle.model.specs.Calls.{Outcome, final_at, held, may_enter, refuse}
+use Rattle.model.specs.Said.{refusal_number}
+use Rattle.model.specs.declared.Refusal.{Refusal}
 use Rattle.model.specs.Promised.{CutAs, Does, WholeAs}
 use Rattle.model.proofs.Hash.{size_most}
 use Rattle.model.proofs.Lent.{fit}
@@ -29,7 +30,6 @@ use Rattle.stepping.specs.Step.{EnterAsked, entering_at}
 use Rattle.model.specs.declared.Grant.{Grant}
 use Rattle.hashing.specs.declared.Homes.{Homes}
 use Rattle.looking.specs.declared.Looked.{Looked}
-use Rattle.looking.specs.declared.Look.TheVariants as look
 
 module _ (m : Mem) (g : Grant) (h : Homes) (shift p i : ℕ) where
   abbrev entry : Block
@@ -76,24 +76,25 @@ module _ (W : Ways) (m : Mem) (g : Grant) (p i : ℕ) where
   by_homes {h} hs away =
       rw (hs.first_is, hs.second_is, hs.counter_is, hs.tag_is, ap there away) refl
 
-  pub enter_early : {b : Bool} → b ≡ bad_grant g → {n : ℕ} → n ≡ early (right_lengths W m) g.animal b → n ≢ 0 → WholeAs W m (step_enter g p i) m (refused n)
-  enter_early eb e nz = whole (does_refuse (early_outcome W m g.animal (bad_grant g) (rw eb at e) nz rest))
+  pub enter_early : {b : Bool} → b ≡ bad_grant g → {e : Result Unit Refusal} → e ≡ early (right_lengths W m) g.animal b → {r : Refusal} → e ≡ Err r
+      → WholeAs W m (step_enter g p i) m (refused (refusal_number r))
+  enter_early eb e q = whole (does_refuse (early_outcome W m g.animal (bad_grant g) (rw eb at e) q rest))
 
   module _ (passed : Passed W m g.animal (bad_grant g)) {r : Looked} (l : LooksUp W m g.animal r) where
-    pub enter_looked : {n : ℕ} → r.look ≡ look.Refused n → WholeAs W m (step_enter g p i) m (refused n)
+    pub enter_looked : {e : Refusal} → r.hit ≡ Err e → WholeAs W m (step_enter g p i) m (refused (refusal_number e))
     enter_looked q = whole (does_refuse (look_refused W m g.animal (bad_grant g) rest passed l q))
 
-    pub enter_absent : (shift : ℕ) → W.ways ≡ 2 ^ shift → r.look ≡ look.Absent → {m' : Mem} {a : Answer}
+    pub enter_absent : (shift : ℕ) → W.ways ≡ 2 ^ shift → r.hit ≡ Ok None → {m' : Mem} {a : Answer}
         → Does (entering_at (2 ^ shift) m g r.homes p i) all_stores m m' a → WholeAs W m (step_enter g p i) m' a
     enter_absent shift w q d =
         let s = look_lacks W m g.animal (bad_grant g) rest passed l q in
         whole (does_as (ap (λ n. entering_at n m g r.homes p i) (sym w) ∙ by_homes l.homes_are s.1 ∙ sym s.0) d)
 
-    pub enter_held : {w : ℕ} → r.look ≡ look.At w → WholeAs W m (step_enter g p i) m (refused 12)
+    pub enter_held : {w : ℕ} → r.hit ≡ Ok (Some w) → WholeAs W m (step_enter g p i) m (refused 12)
     unfolding may_enter
     enter_held q = let s = look_holds W m g.animal (bad_grant g) rest passed l q in whole (does_refuse (s.0 ∙ rw (ap there s.1)))
 
-pub enter_asked : (s c i : List ℕ) (x : ℕ) (b : Bool) {n : ℕ} → n ≡ early (right_lengths four (mem s c i)) x b → n ≡ 0 → {r : Looked} → LooksUp four (mem s c i) x r
+pub enter_asked : (s c i : List ℕ) (x : ℕ) (b : Bool) {e : Result Unit Refusal} → e ≡ early (right_lengths four (mem s c i)) x b → e ≡ Ok tt → {r : Looked} → LooksUp four (mem s c i) x r
     → EnterAsked (mem s c i) r.homes 2
 enter_asked s c i x b e z l =
     let f = fit four (mem s c i) (passed_lengths four (mem s c i) x b e z) in

@@ -1,4 +1,3 @@
 pub mod Moving
-pub mod Planned
 pub mod Entering
 pub mod Decides

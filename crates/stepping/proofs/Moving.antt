@@ -2,7 +2,7 @@
 use Prim.Native.Nat.{ℕ, ◌/◌, ◌^◌, ◌<◌}
 use native.Mathlib.Omega.{arith}
 use mathlib.Core.Path.{◌≡◌, refl, sym, ap, ◌∙◌}
-use mathlib.Core.Logic.{◌≢◌}
+use Rattle.std.specs.Prelude.{Result, Ok, Err}
 use mathlib.Core.Bool.{Bool, true, not}
 use mathlib.Core.List.{List, [], ◌∷◌}
 use lib.ListN.{length, get_or}
@@ -17,6 +17,8 @@ use Rattle.model.specs.Calling.{step_move}
 use Rattle.model.specs.Answers.{Answer, move_made, refused}
 use Rattle.model.specs.Age.{bad_grant}
 use Rattle.model.specs.Calls.{may_move, move_at, move_block, refuse}
+use Rattle.model.specs.Said.{refusal_number}
+use Rattle.model.specs.declared.Refusal.{Refusal}
 use Rattle.model.specs.Promised.{CutAs, Does, WholeAs}
 use Rattle.model.proofs.Hash.{size_most}
 use Rattle.model.proofs.Lent.{and_is, fit}
@@ -29,9 +31,6 @@ use Rattle.step_rules.specs.Rules.{moves_by}
 use Rattle.stepping.specs.Step.{MoveAsked}
 use Rattle.model.specs.declared.Grant.{Grant}
 use Rattle.model.specs.declared.MoveRecord.{MoveRecord}
-
-pub buckets_fit : {s c : List ℕ} {shift : ℕ} → MoveAsked s c shift → length s / 2 ^ shift < 2 ^ 32
-buckets_fit a = omega (arith, size_most a.size)
 
 -- the test by the words of slots s is the model's
 module _ (s c : List ℕ) (shift m : ℕ) (v : MoveRecord) {w d : ℕ} (ew : w ≡ get_or s v.from 0) (ed : d ≡ get_or s v.to 0)
@@ -59,7 +58,7 @@ module _ (s c : List ℕ) (shift m : ℕ) (v : MoveRecord) {w d : ℕ} (ew : w �
 
     pub move_done : {k l : ℕ} {s' c' : List ℕ}
         → ((W : Ways) (p : ℕ) (t : List ℕ) → W.ways ≡ 2 ^ shift
-        → Made (stores_of (move_block (shape W (length s / 2 ^ shift) (length c) p) s (record { from = v.from; to = v.to }))) k (mem s c t) (mem s' c' t) l)
+        → Made (stores_of (move_block (shape W (length s / 2 ^ shift) (length c) p) s (as_move v))) k (mem s c t) (mem s' c' t) l)
         → (W : Ways) (t : List ℕ) → W.ways ≡ 2 ^ shift → length t / 4 ≡ m
         → Does (move_at (shape_of W (mem s c t)) (mem s c t) v) k (mem s c t) (mem s' c' t) move_made
     move_done {k} {l} {s'} {c'} d W t q r =
@@ -67,9 +66,9 @@ module _ (s c : List ℕ) (shift m : ℕ) (v : MoveRecord) {w d : ℕ} (ew : w �
         (rw (← q) at (d W (length t / 4) t q))
 
 -- the call: what it lends to the do
-module _ (s c i : List ℕ) (x : ℕ) (b : Bool) {n : ℕ} (e : n ≡ due four (mem s c i) x b) (z : n ≡ 0) where
+module _ (s c i : List ℕ) (x : ℕ) (b : Bool) {e : Result Unit Refusal} (ed : e ≡ due four (mem s c i) x b) (z : e ≡ Ok tt) where
   right : right_lengths four (mem s c i) ≡ true
-  right = due_lengths four (mem s c i) x b refl e z
+  right = due_lengths four (mem s c i) x b refl ed z
 
   pub places_small : length i / 4 < 2 ^ 32
   places_small = omega (arith, (fit four (mem s c i) right).few)
@@ -93,10 +92,11 @@ module _ (W : Ways) (m : Mem) (g : Grant) (v : MoveRecord) where
   whole : {m' : Mem} {a : Answer} → CutAs W m (step_move g v) all_stores m' a → WholeAs W m (step_move g v) m' a
   whole d = did_all (few_asked W m g.animal (bad_grant g) few_moved) (omega arith) d
 
-  pub step_refused : {b : Bool} → b ≡ bad_grant g → {n : ℕ} → n ≡ due W m g.animal b → n ≢ 0 → WholeAs W m (step_move g v) m (refused n)
-  step_refused eb e nz = whole (does_refuse (is_due W m g.animal (bad_grant g) eb e nz (move_at (shape_of W m) m v)))
+  pub step_refused : {b : Bool} → b ≡ bad_grant g → {e : Result Unit Refusal} → e ≡ due W m g.animal b → {r : Refusal} → e ≡ Err r
+      → WholeAs W m (step_move g v) m (refused (refusal_number r))
+  step_refused eb ed q = whole (does_refuse (is_due W m g.animal (bad_grant g) eb ed q (move_at (shape_of W m) m v)))
 
-pub step_moved : (s c i : List ℕ) (g : Grant) (v : MoveRecord) {b : Bool} → b ≡ bad_grant g → {n : ℕ} → n ≡ due four (mem s c i) g.animal b → n ≡ 0
+pub step_moved : (s c i : List ℕ) (g : Grant) (v : MoveRecord) {b : Bool} → b ≡ bad_grant g → {e : Result Unit Refusal} → e ≡ due four (mem s c i) g.animal b → e ≡ Ok tt
     → {s' c' : List ℕ} {a : Answer}
     → ((W : Ways) (t : List ℕ) → W.ways ≡ 2 ^ 2 → length t / 4 ≡ length i / 4
     → Does (move_at (shape_of W (mem s c t)) (mem s c t) v) all_stores (mem s c t) (mem s' c' t) a)

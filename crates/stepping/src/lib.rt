@@ -12,8 +12,7 @@ ghost use Rattle.model.specs.Promised.{Does, WholeAs};
 ghost use Rattle.stepping.specs.Step.{EnterAsked, MoveAsked, entering_at};
 
 use hashing::Homes;
-use looking::Look;
-use model::{Grant, MoveRecord, Stepping};
+use model::{Grant, MoveRecord, NO_MOVE, Refusal, Table};
 
 // The test and the do of a move: it may be made by its two words, and then the word that stands in its source moves. It knows the ways
 // by a shift only.
@@ -24,7 +23,7 @@ fn make_move(
     shift: u32,
     v: MoveRecord,
     k: u64,
-) -> Stepping
+) -> Result<(), Refusal>
     requires { MoveAsked slots.old counters.old shift }
     ensures { (W : Ways) (t : List ℕ) → W.ways ≡ 2 ^ shift → length t / 4 ≡ m
         → Does (move_at (shape_of W (mem slots.old counters.old t)) (mem slots.old counters.old t) v) k
@@ -32,16 +31,13 @@ fn make_move(
 {
     let long = slots.len();
     let n = (long >> shift) as u32;
-    let from = v.from;
-    let to = v.to;
-    let w = runs::get32(slots, from);
-    let d = runs::get32(slots, to);
-    let may = step_rules::may_move(long, n, m, shift, w, d, v);
-    if !may {
-        return Stepping::Refused(12);
+    let w = runs::word_or(slots, v.from, 0);
+    let d = runs::word_or(slots, v.to, 0);
+    if !step_rules::may_move(long, n, m, shift, w, d, v) {
+        return Err(Refusal::NoStep);
     }
-    moves::move_one(slots, counters, n, shift, from, to, k);
-    Stepping::Made
+    moves::move_one(slots, counters, n, shift, v, k);
+    Ok(())
 }
 
 // One whole move, with set's inputs. It is made also where the animal is held by now: nothing ties a step to its plan.
@@ -51,15 +47,17 @@ pub fn step_move(
     items: &[u64],
     g: Grant,
     v: MoveRecord,
-) -> Stepping
+) -> Result<(), Refusal>
     ensures { WholeAs four (mem slots.old counters.old items.now) (step_move g v)
         (mem slots.new counters.new items.now) (said_move result) }
 {
     let bad = ageing::is_bad_grant(g);
-    let no = looking::refused_first(slots, counters, items, g.animal, bad);
-    if no != 0 {
-        return Stepping::Refused(no);
-    }
+    let table = Table {
+        slots,
+        counters,
+        items,
+    };
+    looking::refused_first(&table, g.animal, bad)?;
     let m = (items.len() / 4) as u32;
     make_move(slots, counters, m, 2, v, blocks::ALL_STORES)
 }
@@ -72,19 +70,11 @@ pub fn step_planned(
     g: Grant,
     plan: [MoveRecord; 4],
     j: usize,
-) -> Stepping
+) -> Result<(), Refusal>
     ensures { WholeAs four (mem slots.old counters.old items.now) (step_move g (get_or plan j no_move))
         (mem slots.new counters.new items.now) (said_move result) }
 {
-    if 4 <= j {
-        let none = MoveRecord {
-            from: 0,
-            tag: 0,
-            to: 0,
-        };
-        return step_move(slots, counters, items, g, none);
-    }
-    let v = plan[j];
+    let v = runs::word_or(&plan, j, NO_MOVE);
     step_move(slots, counters, items, g, v)
 }
 
@@ -100,46 +90,26 @@ fn make_entry(
     place: usize,
     slot: usize,
     k: u64,
-) -> Stepping
+) -> Result<(), Refusal>
     requires { EnterAsked (mem slots.old counters.old items.old) homes shift }
     ensures { Does (entering_at (2 ^ shift) (mem slots.old counters.old items.old) g homes place slot) k
         (mem slots.old counters.old items.old)
         (mem slots.new counters.new items.new) (said_entry result) }
 {
     if items.len() / 4 <= place {
-        return Stepping::Refused(12);
+        return Err(Refusal::NoStep);
     }
     let number = items[4 * place];
-    let w = runs::get32(slots, slot);
-    let may = step_rules::may_enter(
-        slots.len(),
-        shift,
-        homes.first,
-        homes.second,
-        number,
-        w,
-        slot,
-    );
-    if !may {
-        return Stepping::Refused(12);
+    let w = runs::word_or(slots, slot, 0);
+    let long = slots.len();
+    if !step_rules::may_enter(long, shift, homes.first, homes.second, number, w, slot) {
+        return Err(Refusal::NoStep);
     }
     let p = place as u32;
     let word = homes.tag * 65536 + p;
     let c = homes.counter as usize;
-    blocks::enter_entry(
-        slots,
-        counters,
-        items,
-        c,
-        p,
-        slot,
-        word,
-        g.animal,
-        g.permission,
-        g.issued,
-        k,
-    );
-    Stepping::Made
+    blocks::enter_entry(slots, counters, items, c, p, slot, word, g, k);
+    Ok(())
 }
 
 // The final store, with set's inputs. An animal that is held by now has its entry.
@@ -150,31 +120,22 @@ pub fn step_enter(
     g: Grant,
     place: usize,
     slot: usize,
-) -> Stepping
+) -> Result<(), Refusal>
     ensures { WholeAs four (mem slots.old counters.old items.old) (step_enter g place slot)
         (mem slots.new counters.new items.new) (said_entry result) }
 {
     let bad = ageing::is_bad_grant(g);
-    let no = looking::refused_early(slots.len(), counters.len(), items.len(), g.animal, bad);
-    if no != 0 {
-        return Stepping::Refused(no);
-    }
-    let looked = looking::look_up(slots, counters, items, g.animal);
-    let look = looked.look;
+    looking::refused_early(slots.len(), counters.len(), items.len(), g.animal, bad)?;
+    let table = Table {
+        slots,
+        counters,
+        items,
+    };
+    let looked = looking::look_up(&table, g.animal);
     let homes = looked.homes;
-    match look {
-        Look::Refused(n) => Stepping::Refused(n),
-        Look::Absent => make_entry(
-            slots,
-            counters,
-            items,
-            g,
-            homes,
-            2,
-            place,
-            slot,
-            blocks::ALL_STORES,
-        ),
-        Look::At(_) => Stepping::Refused(12),
+    let k = blocks::ALL_STORES;
+    match looked.hit? {
+        Some(_) => Err(Refusal::NoStep),
+        None => make_entry(slots, counters, items, g, homes, 2, place, slot, k),
     }
 }

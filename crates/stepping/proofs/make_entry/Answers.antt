@@ -5,8 +5,8 @@ use Rattle.stepping.proofs.make_entry.Goals as goal
 pub returns-then-items-place : goal.returns-then-items-place
 returns-then-items-place c = search place_out
 
-pub returns-then-not-may : goal.returns-then-not-may
-returns-then-not-may c = search enter_refused
+pub returns-then-not-may_enter : goal.returns-then-not-may_enter
+returns-then-not-may_enter c = search enter_refused
 
 pub returns : goal.returns
 returns c = search enter_made
