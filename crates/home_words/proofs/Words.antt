@@ -1,5 +1,5 @@
 -- Laws on the eight words. Assumes nothing.
-use Prim.Native.Nat.{ℕ, ◌+◌, ◌*◌, ◌<◌, ◌≤◌, ◌-◌, ◌%◌, ◌/◌, suc}
+use Prim.Native.Nat.{ℕ, ◌+◌, ◌*◌, ◌<◌, ◌≤◌, ◌%◌, ◌/◌, suc}
 use native.Mathlib.Omega.{arith}
 use native.Mathlib.Decide.{ℕ_discrete}
 use mathlib.Core.Path.{◌≡◌, refl, sym, ap, ◌∙◌}
@@ -7,7 +7,7 @@ use mathlib.Core.Logic.{◌≢◌, dite}
 use mathlib.Core.Bool.{Bool, true, false, ◌||◌}
 use Rattle.std.specs.Prelude.{Some, None, cond}
 use mathlib.Core.List.{List, [], ◌∷◌, map, ◌++◌, append-nil}
-use lib.ListN.{get_or, length}
+use lib.ListN.{get_or}
 use Rattle.std.specs.List.{find, fold, sum_by}
 use Rattle.std.specs.Bool.{then_some}
 use lib.Dec.{eqb}
@@ -47,21 +47,10 @@ fold_sum t z (w ∷ ws) = fold_sum t (z + choose (eqb (tag w) t) w 0) ws ∙ ome
 pub sum_folded : (t : ℕ) (ws : List ℕ) → sum_by (λ w. choose (eqb (tag w) t) w 0) ws ≡ tag_sum t ws
 sum_folded t ws = fold_sum t 0 ws ∙ omega arith
 
-pub sum_most : (t : ℕ) → t < 256 → (ws : List ℕ) → tag_sum t ws ≤ 16777216 * length ws
-unfolding tag_sum tag
-sum_most t h [] = omega arith
-sum_most t h (w ∷ ws) =
-    bool (λ b. eqb (w / 65536) t ≡ b → choose b w 0 + tag_sum t ws ≤ 16777216 * suc (length ws)) (eqb (w / 65536) t)
-    (λ q e. let z : w / 65536 ≡ t = eqb-true (w / 65536) t e in omega (arith, sum_most t h ws)) (λ q e. omega (arith, sum_most t h ws)) refl
-
 pub found_first : (f : ℕ → Bool) (ws : List ℕ) → find f ws ≡ first f ws
 unfolding first
 found_first f [] = refl
 found_first f (w ∷ ws) = bool (λ b. cond b (Some w) (find f ws) ≡ choose b (Some w) (first f ws)) (f w) (λ e. refl) λ e. found_first f ws
-
--- the last of m places
-pub last_is : (m : ℕ) → (1 ≤ m) × (m ≤ 65536) → suc ((m - 1) % 65536) ≡ m
-last_is m h = omega arith
 
 pub lead_other : (l : List ℕ) (t x w : ℕ) → tag w ≢ t → leads l t x w ≡ false
 unfolding leads

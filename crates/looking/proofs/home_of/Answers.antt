@@ -1,7 +1,6 @@
 -- `looking::home_of` meets its contract: one law a way out. Assumes nothing.
-use Rattle.looking.proofs.HomesLie.{places_fit, places_some, places_named}
+use Rattle.looking.proofs.HomesLie.{places_fit}
 use Rattle.looking.proofs.Looking.{home_busy, home_damaged, home_sound}
-use borrow.Author.Rules.{rules}
 use Rattle.looking.proofs.home_of.Goals as goal
 
 pub returns-then-is_odd : goal.returns-then-is_odd
@@ -9,9 +8,6 @@ returns-then-is_odd c = search home_busy
 
 pub overflow_cast-m : goal.overflow_cast-m
 overflow_cast-m c = record { fits = search places_fit }
-
-pub any_damaged-requires : goal.any_damaged-requires
-any_damaged-requires c = search (rules, places_some, places_named)
 
 pub returns-then-any_damaged : goal.returns-then-any_damaged
 returns-then-any_damaged c = search home_damaged
