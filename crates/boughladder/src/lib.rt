@@ -1,5 +1,5 @@
 // The calls that a cabinet links, as libboughladder.a: C names over numbers and slices, and nothing but the C clothes of each answer. A set
-// in steps has an object of its own, boughladder_steps.
+// in steps has an object of its own, boughladder_steps. C passes the three runs, the parts of a grant, and a limit with its minute one by one.
 #![tactic(auto)]
 
 ghost use Rattle.std.specs.Prelude.{◌≡◌};
@@ -18,7 +18,7 @@ use clothes::{
     BoughladderEvicting, BoughladderFinding, BoughladderJudgement, BoughladderListing,
     BoughladderReading, BoughladderSetting,
 };
-use model::Grant;
+use model::{Grant, Table};
 use places::Hand;
 
 #[unsafe(no_mangle)]
@@ -37,8 +37,7 @@ pub extern "C" fn boughladder_fresh(
     ensures { FreshIn four (mem slots.old counters.old items.old)
         (mem slots.new counters.new items.new) result }
 {
-    let told = starting::fresh(slots, counters, items);
-    clothes::dress_starting(told)
+    clothes::dress_done(starting::fresh(slots, counters, items))
 }
 
 #[unsafe(no_mangle)]
@@ -53,8 +52,12 @@ pub extern "C" fn boughladder_read(
     ensures { result ≡ reading_clothes
         (lent_call four (mem slots.now counters.now items.now) (read animal limit minute)).answer }
 {
-    let told = reading::read(slots, counters, items, animal, limit, minute);
-    clothes::dress_reading(told)
+    let table = Table {
+        slots,
+        counters,
+        items,
+    };
+    reading::read(&table, animal, limit, minute).into()
 }
 
 #[unsafe(no_mangle)]
@@ -69,8 +72,7 @@ pub extern "C" fn boughladder_serve(
     ensures { WholeIn four reading_clothes (mem slots.now counters.now items.old) (serve animal limit minute)
         (mem slots.now counters.now items.new) result }
 {
-    let told = reading::serve(slots, counters, items, animal, limit, minute);
-    clothes::dress_reading(told)
+    reading::serve(slots, counters, items, animal, limit, minute).into()
 }
 
 #[unsafe(no_mangle)]
@@ -83,8 +85,12 @@ pub extern "C" fn boughladder_find(
     ensures { result ≡ finding_clothes
         (lent_call four (mem slots.now counters.now items.now) (find animal)).answer }
 {
-    let told = reading::find(slots, counters, items, animal);
-    clothes::dress_finding(told)
+    let table = Table {
+        slots,
+        counters,
+        items,
+    };
+    reading::find(&table, animal).into()
 }
 
 #[unsafe(no_mangle)]
@@ -106,8 +112,7 @@ pub extern "C" fn boughladder_set(
         issued,
         minute,
     };
-    let told = setting::set(slots, counters, items, granted);
-    clothes::dress_setting(told)
+    setting::set(slots, counters, items, granted).into()
 }
 
 // Of which only the first k stores are made.
@@ -131,8 +136,7 @@ pub extern "C" fn boughladder_set_cut(
         issued,
         minute,
     };
-    let told = setting::set_cut(slots, counters, items, granted, k);
-    clothes::dress_setting(told)
+    setting::set_cut(slots, counters, items, granted, k).into()
 }
 
 #[unsafe(no_mangle)]
@@ -145,8 +149,7 @@ pub extern "C" fn boughladder_delete(
     ensures { WholeIn four number (mem slots.old counters.old items.old) (delete animal)
         (mem slots.new counters.new items.new) result }
 {
-    let told = deleting::delete(slots, counters, items, animal);
-    clothes::dress_deleting(told)
+    clothes::dress_done(deleting::delete(slots, counters, items, animal))
 }
 
 // Of which only the first k stores are made.
@@ -161,8 +164,7 @@ pub extern "C" fn boughladder_delete_cut(
     ensures { CutIn four number (mem slots.old counters.old items.old) (delete animal) k
         (mem slots.new counters.new items.new) result }
 {
-    let told = deleting::delete_cut(slots, counters, items, animal, k);
-    clothes::dress_deleting(told)
+    clothes::dress_done(deleting::delete_cut(slots, counters, items, animal, k))
 }
 
 #[unsafe(no_mangle)]
@@ -176,9 +178,7 @@ pub extern "C" fn boughladder_evict(
         (mem slots.new counters.new items.new) result }
 {
     let turned = evicting::evict(slots, counters, items, Hand { at: hand });
-    let told = turned.answer;
-    let next = turned.hand;
-    clothes::dress_evicting(told, next.at)
+    clothes::dress_evicting(turned.answer, turned.hand.at)
 }
 
 // Of which only the first k stores are made.
@@ -194,9 +194,7 @@ pub extern "C" fn boughladder_evict_cut(
         (mem slots.new counters.new items.new) result }
 {
     let turned = evicting::evict_cut(slots, counters, items, Hand { at: hand }, k);
-    let told = turned.answer;
-    let next = turned.hand;
-    clothes::dress_evicting(told, next.at)
+    clothes::dress_evicting(turned.answer, turned.hand.at)
 }
 
 #[unsafe(no_mangle)]
@@ -208,8 +206,12 @@ pub extern "C" fn boughladder_list(
 ) -> BoughladderListing
     ensures { ListIn four (mem slots.now counters.now items.now) buffer.old buffer.new result }
 {
-    let told = listing::list(slots, counters, items, buffer);
-    clothes::dress_listing(told)
+    let table = Table {
+        slots,
+        counters,
+        items,
+    };
+    listing::list(&table, buffer).into()
 }
 
 // The auditor's reader: the items are all that it takes.
@@ -222,8 +224,7 @@ pub extern "C" fn boughladder_plain_read(
 ) -> BoughladderReading
     ensures { result ≡ reading_clothes (plain_read items.now animal limit minute) }
 {
-    let told = plain::read(items, animal, limit, minute);
-    clothes::dress_reading(told)
+    plain::read(items, animal, limit, minute).into()
 }
 
 // The judge of a memory dump: it refuses nothing and stores nothing.
@@ -235,6 +236,10 @@ pub extern "C" fn boughladder_judge(
 ) -> BoughladderJudgement
     ensures { result ≡ judgement_clothes (judgement four (mem slots.now counters.now items.now)) }
 {
-    let told = judging::judge(slots, counters, items);
-    clothes::dress_judgement(told)
+    let table = Table {
+        slots,
+        counters,
+        items,
+    };
+    judging::judge(&table).into()
 }
