@@ -25,7 +25,7 @@ pub fn put<T: Copy>(run: &mut [T], i: usize, v: T, left: u64) -> u64
 }
 
 // One counter plus 1; counters wrap.
-fn put_bump(counters: &mut [u32], c: usize, left: u64) -> u64
+pub fn put_bump(counters: &mut [u32], c: usize, left: u64) -> u64
     ensures { Put c ((slice_index counters.old c + 1) % 2 ^ 32) left counters.old counters.new result }
 {
     let next = counters.get(c).copied().unwrap_or(0).wrapping_add(1);
