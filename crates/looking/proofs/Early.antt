@@ -1,9 +1,10 @@
 -- Refusals 1, 2 and 3, that every call about an animal takes first. Assumes nothing.
 use Prim.Native.Nat.{ℕ}
 use mathlib.Core.Path.{◌≡◌, refl, sym, ap, ◌∙◌}
-use mathlib.Core.Bool.{Bool, true, false}
+use mathlib.Core.Logic.{◌≢◌}
+use mathlib.Core.Bool.{Bool, true, false, not}
 use lib.Dec.{eqb}
-use borrow.Author.Tests.{ne_eqb, eqb-false}
+use borrow.Author.Tests.{eq-eqb, ne_eqb, eqb-false, not-true, not-false}
 use Rattle.std.specs.Prelude.{Result, Ok, Err}
 use Rattle.model.specs.Choice.{choose}
 use Rattle.model.specs.Memory.{Mem}
@@ -51,6 +52,22 @@ module _ (W : Ways) (m : Mem) (x : ℕ) (bad : Bool) where
       go true true c eg eb ec f = absurd (cc)
       go true false true eg eb ec f = absurd (cc)
       go true false false eg eb ec f = record { lengths = eg; real = eqb-false x 0 eb; timely = ec }
+
+  -- each test by itself, where a call leaves at the first that is due
+  module _ {g : Bool} (e : g ≡ right_lengths W m) where
+    pub due_one : not g ≡ true → (o : Outcome) → asked_now o ≡ refuse 1
+    due_one t o = rw (sym e ∙ not-true g t)
+
+    module _ (t : not g ≡ false) where
+      pub due_two : x ≡ 0 → (o : Outcome) → asked_now o ≡ refuse 2
+      due_two z o = rw (sym e ∙ not-false g t, eq-eqb x 0 z)
+
+      module _ (nz : x ≢ 0) {b : Bool} (eb : b ≡ bad) where
+        pub due_three : b ≡ true → (o : Outcome) → asked_now o ≡ refuse 3
+        due_three y o = rw (sym e ∙ not-false g t, ne_eqb x 0 nz, sym eb ∙ y)
+
+        pub none_due : b ≡ false → Passed W m x bad
+        none_due n = record { lengths = sym e ∙ not-false g t; real = nz; timely = sym eb ∙ n }
 
   -- and then only busy and damage come before the rest
   pub past_early : Passed W m x bad → (o : Outcome)
