@@ -1,25 +1,25 @@
 -- Laws on a row that is filled in: one a way out of the code. Assumes nothing.
-use Prim.Native.Nat.{ℕ, suc, ◌+◌, ◌-◌, ◌*◌, ◌≤◌, ◌<◌}
+use Prim.Native.Nat.{ℕ, zero, suc, ◌+◌, ◌*◌, ◌≤◌, ◌<◌}
 use native.Mathlib.Omega.{arith}
 use native.Mathlib.Numerals.{add-one}
 use mathlib.Core.Path.{◌≡◌, refl, sym, ap, ap₂, ◌∙◌}
 use mathlib.Core.Logic.{◌≢◌}
 use mathlib.Core.Bool.{Bool, true, false}
 use mathlib.Core.List.{List, [], ◌∷◌, ◌++◌, append_assoc}
-use lib.ListN.{length, get_or, drop, drop_of_length-le, length-drop, set}
-use lib.Seq.{drop-cons, length-take-le}
+use lib.ListN.{length, get_or, drop, drop_of_length-le, set}
+use lib.Seq.{drop-cons}
+use Rattle.std.specs.Prelude.{Option, Some, None}
+use Rattle.std.specs.Option.{unwrap_or, option_map}
+use Rattle.std.proofs.Common.{Bor}
 use Rattle.model.specs.Choice.{choose}
 use Rattle.buffer.specs.Put.{Put}
 use Rattle.buffer.proofs.Putting.{put_both, put_length}
-use Rattle.replay_words.specs.Words.{lines}
-use Rattle.replay_words.specs.Cursor.{PieceAt, part}
-use Rattle.replay_words.specs.declared.Piece.{Piece}
+use Rattle.replay_words.specs.Words.{is_end, joined, lines}
 use Rattle.replay_print.specs.Text.{bytes}
 use Rattle.replay_print.specs.Print.{decimal_of}
 use Rattle.replay_echo.specs.Echo.{behind, echo, filled_in, in_place, is_capital}
-use Rattle.replay_echo.specs.Placed.{One, RowAt}
+use Rattle.replay_echo.specs.Placed.{One}
 use Rattle.replay_echo.specs.declared.Filled.{Filled}
-use Rattle.replay_echo.specs.declared.Span.{Span}
 
 -- one byte
 module _ (xs : List ℕ) (i b : ℕ) {t : Bool} (e : t ≡ is_capital b) {at : ℕ} {before : List ℕ} where
@@ -93,70 +93,42 @@ module _ {xs row : List ℕ} {at : ℕ} {before out : List ℕ} {here : Filled} 
       let q : s.front ++ [] ≡ filled_in xs 0 row = ap (λ (l : List ℕ). s.front ++ filled_in xs here.index l) (sym (drop_of_length-le row h)) ∙ s.ahead in
       rw (← q) (put_both s.put (record { bytes_put = refl; next = omega arith }))
 
--- the rows up to from are k
-pub record Counting (rows : List ℕ) (row from k : ℕ) : Type 0 where
-  pub inside : from ≤ length rows
-  pub few : k ≤ from
-  pub before : k ≤ row
-  pub ahead : get_or (lines (drop from rows)) (row - k) [] ≡ get_or (lines rows) row []
-
-pub count_first : (rows : List ℕ) (row : ℕ) → Counting rows row 0 0
-count_first rows row =
-    let z : row - 0 ≡ row = omega arith in
-    record { inside = omega arith; few = omega arith; before = omega arith; ahead = ap (λ (i : ℕ). get_or (lines rows) i []) z }
-
-module _ {rows : List ℕ} {row from k : ℕ} (s : Counting rows row from k) where
-  module _ {p : Piece} (piece : PieceAt rows from p) where
-    pub count_here : k ≡ row → RowAt rows row (record { start = from; end = p.end })
-    count_here e =
-        let z : row - k ≡ 0 = omega (arith, e) in
-        record {
-          forward = piece.forward;
-          inside = omega (arith, piece.behind, piece.inside);
-          text = sym (ap₂ (λ (ls : List (List ℕ)) (i : ℕ). get_or ls i []) piece.first_line z) ∙ s.ahead;
-        }
-
-    pub count_more : k ≢ row → Counting rows row p.next (k + 1)
-    count_more n =
-        let z : row - k ≡ suc (row - (k + 1)) = omega (arith, s.before) in
-        record {
-          inside = piece.inside;
-          few = omega (arith, s.few, piece.goes_on);
-          before = omega (arith, s.before);
-          ahead = sym (ap₂ (λ (ls : List (List ℕ)) (i : ℕ). get_or ls i []) piece.first_line z) ∙ s.ahead;
-        }
-
-  pub count_end : length rows ≤ from → RowAt rows row (record { start = from; end = from })
-  unfolding lines
-  count_end h =
-      let q : drop from rows ≡ [] = drop_of_length-le rows h in
-      let z : from - from ≡ 0 = omega arith in
-      record {
-        forward = omega arith;
-        inside = s.inside;
-        text = rw z (ap (λ (l : List ℕ). get_or (lines l) (row - k) []) (sym q) ∙ s.ahead);
-      }
-
 -- a line whose row is not empty
 echo_is : (n : ℕ) (t xs : List ℕ) → length t ≢ 0 → echo n t xs ≡ decimal_of n ++ (bytes ": " ++ (filled_in xs 0 t ++ bytes " -> "))
 unfolding echo
 echo_is n [] xs ne = absurd (ne refl)
 echo_is n (b ∷ bs) xs ne = refl
 
-module _ (n : ℕ) (xs : List ℕ) {rows : List ℕ} {row at : ℕ} {before : List ℕ} {r : Span} (s : RowAt rows row r) where
-  pub echo_nothing : r.start ≡ r.end → Put (echo n (get_or (lines rows) row []) xs) at before before at
-  unfolding echo
-  echo_nothing e =
-      let z : r.end - r.start ≡ 0 = omega (arith, e) in
-      let q : get_or (lines rows) row [] ≡ [] = sym s.text ∙ rw z in
-      rw q (record { bytes_put = refl; next = omega arith })
+-- a row that is there, or another
+pub row_or : (r : Option (Bor (List ℕ))) (other : Bor (List ℕ)) {row : Bor (List ℕ)} {o : Option (List ℕ)} → row ≡ unwrap_or r other → option_map (λ x. x.now) r ≡ o
+    → row.now ≡ unwrap_or o other.now
+row_or None other e f = ap (λ (x : Bor (List ℕ)). x.now) e ∙ ap (λ o. unwrap_or o other.now) f
+row_or (Some x) other e f = ap (λ (x : Bor (List ℕ)). x.now) e ∙ ap (λ o. unwrap_or o other.now) f
 
-  pub echo_call : {first second third after : List ℕ} {i j k l : ℕ} → r.start ≢ r.end → Put (decimal_of n) at before first i
-      → Put (bytes ": ") i first second j → Put (filled_in xs 0 (part rows r.start r.end)) j second third k → Put (bytes " -> ") k third after l
-      → Put (echo n (get_or (lines rows) row []) xs) at before after l
-  echo_call ne a b c d =
-      let t : List ℕ = part rows r.start r.end in
-      let long : length t ≡ r.end - r.start =
-      length-take-le (r.end - r.start) (drop r.start rows) (omega (arith, length-drop r.start rows, s.inside)) in
-      let full : length t ≢ 0 = λ z. ne (omega (arith, long, z, s.forward)) in
-      rw (← s.text, echo_is n t xs full) (put_both a (put_both b (put_both c d)))
+-- no row is longer than the table
+pub row_short : (rows : List ℕ) (k : ℕ) → length (get_or (lines rows) k []) ≤ length rows
+unfolding lines
+row_short [] k = omega arith
+row_short (b ∷ bs) k = one (is_end b) (lines bs) (row_short bs) k
+  where
+    one : (t : Bool) (ps : List (List ℕ)) → ((k : ℕ) → length (get_or ps k []) ≤ length bs) → (k : ℕ) → length (get_or (joined t b ps) k []) ≤ suc (length bs)
+    one true ps h zero = omega arith
+    one true ps h (suc k) = omega (arith, h k)
+    one false [] h zero = omega arith
+    one false [] h (suc k) = omega arith
+    one false (p ∷ ps) h zero = omega (arith, h zero)
+    one false (p ∷ ps) h (suc k) = omega (arith, h (suc k))
+
+module _ (n : ℕ) (xs : List ℕ) {row call : List ℕ} {at : ℕ} {before : List ℕ} (e : call ≡ row) where
+  pub echo_nothing : length call ≡ 0 → Put (echo n row xs) at before before at
+  unfolding echo
+  echo_nothing z = rw (← e) (nothing call z)
+    where
+      nothing : (t : List ℕ) → length t ≡ 0 → Put (echo n t xs) at before before at
+      nothing [] z = record { bytes_put = refl; next = omega arith }
+      nothing (b ∷ t) z = absurd (omega arith)
+
+  pub echo_call : {first second third after : List ℕ} {i j k l : ℕ} → length call ≢ 0 → Put (decimal_of n) at before first i
+      → Put (bytes ": ") i first second j → Put (filled_in xs 0 call) j second third k → Put (bytes " -> ") k third after l
+      → Put (echo n row xs) at before after l
+  echo_call ne a b c d = rw (← e, echo_is n call xs ne) (put_both a (put_both b (put_both c d)))

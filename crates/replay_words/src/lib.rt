@@ -23,7 +23,7 @@ fn count_before(text: &[u8], b: u8) -> usize
     text.iter().take_while(|x| **x != b).count()
 }
 
-// The line from `from` on; its LF is not part of it.
+// The line from `from` on; its LF is not part of it. For one who goes on in the text later, and keeps the position.
 pub fn piece_at(text: &[u8], from: usize) -> Piece
     requires { from < length text.now }
     ensures { PieceAt text.now from result }

@@ -2,8 +2,10 @@
 use Rattle.replay_echo.proofs.Filling.{one_number, one_byte}
 use Rattle.replay_echo.proofs.put_one.Goals as goal
 
-pub returns-then-is_capital : goal.returns-then-is_capital
-returns-then-is_capital c = search one_number
+pub returns-then-is_ascii_uppercase : goal.returns-then-is_ascii_uppercase
+returns-then-is_ascii_uppercase c =
+    one_number c.args.numbers.now c.args.index c.args.b c.is_ascii_uppercase.ensures.value c.if-is_ascii_uppercase.true c.word_or-n.ensures
+    c.put_decimal.ensures.0 c.put_decimal.ensures.1
 
 pub returns : goal.returns
-returns c = search one_byte
+returns c = one_byte c.args.numbers.now c.args.index c.args.b c.is_ascii_uppercase.ensures.value c.if-is_ascii_uppercase.false
