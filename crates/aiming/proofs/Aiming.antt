@@ -1,5 +1,5 @@
 -- What evict is to do: a law a way out of the look, in the code's own words. Assumes nothing.
-use Prim.Native.Nat.{ℕ, ◌+◌, ◌*◌, ◌<◌, ◌≤◌, ◌/◌, ◌%◌}
+use Prim.Native.Nat.{ℕ, ◌+◌, ◌*◌, ◌<◌, ◌/◌, ◌%◌}
 use native.Mathlib.Omega.{arith}
 use native.Mathlib.Decide.{ℕ_discrete}
 use mathlib.Core.Path.{◌≡◌, refl, sym, ap, ◌∙◌, ap₂}
@@ -9,7 +9,7 @@ use Rattle.std.specs.Prelude.{Option, Some, None, Ok, Err}
 use mathlib.Core.List.{List, ◌++◌}
 use lib.ListN.{length, get_or}
 use lib.Dec.{eqb}
-use borrow.Author.Tests.{eq-eqb, ne_eqb, le-leb, lt-leb, not-true, not-false}
+use borrow.Author.Tests.{eq-eqb, ne_eqb, lt-leb, not-false}
 use Rattle.model.specs.Choice.{choose, first, range}
 use Rattle.model.specs.Memory.{Mem, place, tag, word}
 use Rattle.model.specs.Shape.{Ways, good_lengths, homes, right_lengths, shape_of}
@@ -19,10 +19,9 @@ use Rattle.model.specs.Calls.{Outcome, busy, call, evict_animal, evict_at, evict
 use Rattle.model.specs.Lent.{lent_call}
 use Rattle.model.proofs.ListLaws.{both_no, both_yes, first_same}
 use Rattle.model.proofs.Lent.{fit}
-use Rattle.model.specs.declared.Refusal.{Refusal}
 use Rattle.model.specs.declared.Refusal.TheVariants as refusal
 use Rattle.looking.specs.Look.{LooksHome, own_words}
-use Rattle.looking.proofs.Looking.{sound_calm, sound_refused}
+use Rattle.looking.proofs.Looking.{sound_calm}
 use Rattle.looking.specs.declared.Home.{Home}
 use Rattle.places.specs.Walks.{scanned}
 use Rattle.places.proofs.Found.{Within, scan_empty, scan_live, scan_within}
@@ -59,10 +58,6 @@ module _ (W : Ways) (m : Mem) (p n : ℕ) {x : ℕ} {h : Home} (a : Aimed W m p)
       ≡ choose (busy (shape_of W m) m x) (refuse 8) (choose (home_damage (shape_of W m) m x) (refuse 4) (slot_due hand))
   in_turn hand = ap (evict_animal (shape_of W m) m hand the_victim) (sym number)
 
-  pub aim_refused : {r : Refusal} → h.words ≡ Err r → AimsAt W m p n (Err r)
-  aim_refused q =
-      record { comes = λ hand. sym (in_turn hand ∙ sound_refused W m x (own_words W m x) l.words_are q (slot_due hand)); aims = tt }
-
   module _ {ws : List ℕ} (calm : h.words ≡ Ok ws) {o : Option ℕ}
       (found : o ≡ first (λ i. eqb (get_or m.slots i 0) (h.homes.tag * 65536 + p)) (range (h.homes.first * W.ways) W.ways ++ range (h.homes.second * W.ways) W.ways)) where
     slot_is : o ≡ slot_of (shape_of W m) m x p
@@ -89,32 +84,13 @@ module _ (W : Ways) (m : Mem) (p n : ℕ) {x : ℕ} {h : Home} (a : Aimed W m p)
           aims = (refl, refl);
         }
 
--- refusal 1
-module _ (W : Ways) (m : Mem) (hand : ℕ) {g : Bool}
-    (good : g ≡ good_lengths W (length m.slots) (length m.counters) (length m.items)) where
-  abbrev call_due : Outcome
-  call_due = call (shape_of W m) m (evict hand)
-
-  pub turn_lengths : not g ≡ true → Turns W m hand (Err refusal.Lengths)
-  turn_lengths e = record { comes = sym (ap (λ z. choose z call_due (refuse 1)) (sym good ∙ not-true g e)); readies = tt }
-
-  module _ (e : not g ≡ false) where
-    right : right_lengths W m ≡ true
-    right = sym good ∙ not-false g e
-
-    pub turn_hand : places_in m ≤ hand → Turns W m hand (Err refusal.Lengths)
-    turn_hand q =
-        let o = evict_at (shape_of W m) m hand (victim (places_in m) m.items hand) in
-        record {
-          comes = sym (ap (λ z. choose z call_due (refuse 1)) right
-              ∙ ap (λ z. choose z (refuse 1) (choose (some_live (places_in m) m.items) o (refuse 7))) (le-leb (places_in m) hand q));
-          readies = tt;
-        }
-
-    pub turn_handed : hand < places_in m → Handed W m hand
-    turn_handed q =
-        let f = fit W m right in
-        record { lengths = right; few = f.few; four_each = f.items_fit; below = q }
+-- refusal 1 is not due
+pub turn_handed : (W : Ways) (m : Mem) (hand : ℕ) {g : Bool} → g ≡ good_lengths W (length m.slots) (length m.counters) (length m.items) → not g ≡ false
+    → hand < places_in m → Handed W m hand
+turn_handed W m hand {g} good e q =
+    let right : right_lengths W m ≡ true = sym good ∙ not-false g e in
+    let f = fit W m right in
+    record { lengths = right; few = f.few; four_each = f.items_fit; below = q }
 
 -- refusal 7, and the refusals of the victim
 module _ (W : Ways) (m : Mem) (hand : ℕ) (h : Handed W m hand) where

@@ -1,6 +1,5 @@
 -- The clears: a law for each way through a turn of the loop, where a clear isn't seen by the places that follow. Assumes nothing.
 use Prim.Native.Nat.{ℕ, ◌+◌, ◌*◌, ◌<◌, suc, ◌≤◌, ◌-◌, zero}
-use native.Mathlib.Nat.{sub-zero}
 use native.Mathlib.Omega.{arith}
 use native.Mathlib.Decide.{dec_lt}
 use mathlib.Core.Path.{◌≡◌, refl, ap, ◌∙◌}
@@ -71,10 +70,6 @@ module _ (t : List ℕ) (p : ℕ) where
       → Made (clear_stores (prepend (to_clear t p) p [])) l (mem s c t) (mem s c t') l'
   one_cleared e d s c = rw e (lift_item d)
 
-  pub one_passed : to_clear t p ≡ false → (l : ℕ) (s c : List ℕ)
-      → Made (clear_stores (prepend (to_clear t p) p [])) l (mem s c t) (mem s c t) l
-  one_passed e l s c = rw e made_nil
-
 -- the hand stands at h and i of count places are passed: the clears that are left lead to what was asked for
 pub record Clearing (M count hand left : ℕ) (t₀ : List ℕ) (i h l : ℕ) (t : List ℕ) : Type 0 where
   pub upto : i ≤ count
@@ -82,9 +77,6 @@ pub record Clearing (M count hand left : ℕ) (t₀ : List ℕ) (i h l : ℕ) (t
   pub long : length t ≡ length t₀
   pub goes : (s c : List ℕ) (m' : Mem) (l' : ℕ) → Made (clear_stores (passed_recent M t (count - i) h)) l (mem s c t) m' l'
       → Made (clear_stores (passed_recent M t₀ count hand)) left (mem s c t₀) m' l'
-
-pub clear_first : {M count hand left : ℕ} {t : List ℕ} → hand < M → Clearing M count hand left t 0 hand left t
-clear_first e = record { upto = omega arith; within = e; long = refl; goes = λ s c m' l' d. rw sub-zero at d }
 
 module _ {M count hand left i h l : ℕ} {t₀ t : List ℕ} (w : Clearing M count hand left t₀ i h l t) where
   pub clear_next : i < count → count ≤ M → {t' : List ℕ} {g l₁ : ℕ} → length t' ≡ length t

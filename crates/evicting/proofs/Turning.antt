@@ -14,15 +14,15 @@ use Rattle.model.specs.Stores.{Block, Store, item_to, remove, stores, stores_of}
 use Rattle.model.specs.Answers.{evicted, hand_back}
 use Rattle.model.specs.Calling.{evict}
 use Rattle.model.specs.Clock.{Victim, clears, next_hand, passed_recent, prepend, victim}
-use Rattle.model.specs.Calls.{Outcome, busy, call, clear_blocks, evict_at, evict_slot, home_damage, refuse, slot_of, some_live}
+use Rattle.model.specs.Calls.{busy, call, clear_blocks, evict_at, evict_slot, home_damage, refuse, slot_of, some_live}
 use Rattle.model.specs.Lent.{lent_call}
 use Rattle.model.proofs.ListLaws.{bool}
 use Rattle.model.proofs.Lent.{fit}
 use Rattle.model.proofs.Clock.{next_mod}
 use Rattle.blocks.specs.Made.{Made, all_stores}
 use Rattle.blocks.proofs.Laws.{made_append}
-use Rattle.blocks.proofs.Budget.{Few, did_all, does_as, does_made, does_refuse, few_or, few_refuse}
-use Rattle.aiming.specs.Aiming.{Aim, Readies, Ready, Turns, aiming, passed_by, places_in}
+use Rattle.blocks.proofs.Budget.{Few, did_all, does_made, does_refuse, few_or, few_refuse}
+use Rattle.aiming.specs.Aiming.{Aim, Readies, Ready, aiming, passed_by, places_in}
 use Rattle.evicting.specs.Evict.{EvictCut, Evicted, TurnsAs, clear_stores, evict_stores}
 use Rattle.places.specs.declared.Hand.{Hand}
 use Rattle.aiming.specs.declared.Target.{Target}
@@ -98,11 +98,6 @@ few_evict : (W : Ways) (m : Mem) (hand : ℕ) → Few 4103 (lent_call W m (evict
 few_evict W m hand =
     bool (λ b. right_lengths W m ≡ b → Few 4103 (choose b (call (shape_of W m) m (evict hand)) (refuse 1))) (right_lengths W m)
     (λ e right. record { few = omega (arith, (few_call (shape_of W m) m hand).few, (fit W m right).few) }) (λ e right. few_refuse 1) refl
-
--- the call, cut and whole
-module _ (W : Ways) (m : Mem) (hand : ℕ) (a : Aim) (w : Turns W m hand a) {m' : Mem} {r : Turned} where
-  pub evict_cut_done : {k : ℕ} → TurnsAs (aiming m hand a) hand k m m' r → EvictCut W m hand k m' r
-  evict_cut_done d = record { does = does_as w.comes d.does; back = d.back ∙ ap (λ (o : Outcome). hand_back hand o.answer) w.comes }
 
 -- all of the stores, by the cut form
 pub evict_done : (W : Ways) (m : Mem) (hand : ℕ) {m' : Mem} {r : Turned} → EvictCut W m hand all_stores m' r → Evicted W m hand m' r

@@ -1,9 +1,6 @@
 -- `evicting::carry_out` meets its contract. Assumes nothing.
-use Rattle.evicting.proofs.Turning.{turn_ready, turn_refused, turn_taken}
+use Rattle.evicting.proofs.Turning.{turn_refused, turn_taken}
 use Rattle.evicting.proofs.carry_out.Goals as goal
-
-pub take_away-requires : goal.take_away-requires
-take_away-requires c = search turn_ready
 
 pub returns-in-Err : goal.returns-in-Err
 returns-in-Err c = search turn_refused
