@@ -1,5 +1,5 @@
 // The calls of a set in steps that a cabinet links: an object of its own in libboughladder.a. Set and plan share the search, and in one
-// object it stays a call for both: a set of an absent animal took 10 to 13 ns longer so.
+// object it stays a call for both: a set of an absent animal took 10 to 13 ns longer so. C passes the three runs and the parts of a grant one by one.
 #![tactic(auto)]
 
 ghost use Rattle.std.specs.Prelude.{◌≡◌};
@@ -11,7 +11,7 @@ ghost use Rattle.clothes.specs.Clothes.{number, plan_clothes};
 ghost use Rattle.clothes.specs.Dressed.{WholeIn};
 
 use clothes::BoughladderPlan;
-use model::{Grant, MoveRecord};
+use model::{Grant, MoveRecord, Table};
 
 // What a set of an absent animal would do now: it stores nothing.
 #[unsafe(no_mangle)]
@@ -33,8 +33,12 @@ pub extern "C" fn boughladder_plan(
         issued,
         minute,
     };
-    let plan = planning::plan(slots, counters, items, granted);
-    clothes::dress_plan(plan)
+    let table = Table {
+        slots,
+        counters,
+        items,
+    };
+    planning::plan(&table, granted).into()
 }
 
 // One whole move of a plan.
@@ -58,8 +62,7 @@ pub extern "C" fn boughladder_step_move(
         issued,
         minute,
     };
-    let told = stepping::step_move(slots, counters, items, granted, step);
-    clothes::dress_stepping(told)
+    clothes::dress_done(stepping::step_move(slots, counters, items, granted, step))
 }
 
 // The final store of a plan.
@@ -84,6 +87,5 @@ pub extern "C" fn boughladder_step_enter(
         issued,
         minute,
     };
-    let told = stepping::step_enter(slots, counters, items, granted, place, slot);
-    clothes::dress_stepping(told)
+    clothes::dress_done(stepping::step_enter(slots, counters, items, granted, place, slot))
 }
