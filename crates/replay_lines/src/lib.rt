@@ -47,7 +47,7 @@ fn bound_of(wanted: &[u8]) -> Option<u64>
     None
 }
 
-// What a word of a row takes from a word of a line.
+// What a word of a row takes from a word of a line: three answers, so no Option.
 #[derive(Clone, Copy)]
 enum Taken {
     No,

@@ -57,7 +57,7 @@ fn weigh(line: Words, top: u64) -> Result<usize, Reason>
     Ok(count)
 }
 
-// What a line is as one of a dump: none; one that is not understood, and why; or the run that it loads, and how many words it has.
+// What a line is as one of a dump, three answers, so no Option: none; one that is not understood, and why; or the run that it loads, and how many words it has.
 #[derive(Clone, Copy, Debug)]
 pub enum Measured {
     Other,

@@ -48,6 +48,7 @@ fn put_signed(buffer: &mut [u8], at: usize, z: i64) -> usize
     put_decimal(buffer, at, size)
 }
 
+// `char::from_digit` would give a character to turn into a byte: no plainer.
 fn hex_digit(n: u8) -> u8
     requires { n < 16 }
     ensures { result ≡ hex_digit n }
