@@ -98,3 +98,8 @@ pub outer_length : (n : ℕ) → (8 ≤ n → n ≤ 8192 → ⊥) → false ≡ 
 outer_length n out =
     bool (λ b. false ≡ good_slots four n) (leb 8 n)
     (λ e. let l : 8 ≤ n = leb-true 8 n e in long_length n (omega (arith, out l))) λ e. short_length n (leb-false 8 n e)
+
+-- both tests of the code at once
+pub one_bit : (n : ℕ) (b : Bool) → (b ≡ true → (8 ≤ n) × (n ≤ 8192)) → (b ≡ false → 8 ≤ n → n ≤ 8192 → ⊥) → (b && eqb (ones n) 1) ≡ good_slots four n
+one_bit n true y z = middle_length n (y refl).0 (y refl).1
+one_bit n false y z = outer_length n (z refl)
