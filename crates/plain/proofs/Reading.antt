@@ -40,10 +40,6 @@ module _ (i : ℕ) {g : Bool} (e : g ≡ good_items i) (n : not g ≡ false) whe
 pub words_there : (l : List ℕ) (x : ℕ) {p : ℕ} {r : Option ℕ} → r ≡ first_with (length l / 4) l x → r ≡ Some p → 4 * p + 4 ≤ length l
 words_there l x e q = omega (arith, place_within (length l / 4) l x e q)
 
--- 3 is not due
-pub timely : (limit now : ℕ) {b : Bool} → b ≡ bad_time limit now → b ≡ false → bad_time limit now ≡ false
-timely limit now e f = sym e ∙ f
-
 -- the refusals in their turn, then the place
 module _ (l : List ℕ) (x limit now : ℕ) {g : Bool} (long : g ≡ good_items (length l)) where
   pub says_one : not g ≡ true → refused 1 ≡ plain_read l x limit now
