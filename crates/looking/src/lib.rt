@@ -10,7 +10,7 @@ ghost use Rattle.looking.specs.Look.{due, early, HomesIn, LooksHome, LooksUp};
 use hashing::Homes;
 use model::{Refusal, Table};
 
-// Refusals 1, 2 and 3, in this order.
+// Refusals 1, 2 and 3, in this order. The three lengths and no Table: most callers lend runs that they store to.
 #[inline(always)]
 pub fn refused_early(s: usize, v: usize, i: usize, animal: u64, bad: bool) -> Result<(), Refusal>
     ensures { result ≡ early (good_lengths four s v i) animal bad }
@@ -126,7 +126,8 @@ fn slot_if(has: bool, i: usize, other: usize) -> usize
     if has { i } else { other }
 }
 
-// The first slot of bucket b with the word w, else the other number. All four are compared and none is branched on: where a word stands can't be foretold.
+// The first slot of bucket b with the word w, else the other number. All four are compared and none is branched on: where a word stands can't
+// be foretold. A `find` over the eight was tried: a delete mispredicts 1.0 branches for 0.05, which docs/SPEED.md has beyond its target.
 fn slot_among(slots: &[u32], b: u32, w: u32, other: usize) -> usize
     requires { b * 4 + 4 ≤ length slots.now }
     ensures { result ≡ unwrap_or (first (λ i. eqb (get_or slots.now i 0) w) (range (b * 4) 4)) other }
