@@ -1,10 +1,10 @@
 -- The words of a bucket: one of them, damage among them, and the lowest free slot. Assumes nothing.
-use Prim.Native.Nat.{ℕ, zero, suc, ◌+◌, ◌-◌, ◌*◌, ◌<◌}
+use Prim.Native.Nat.{ℕ, zero, suc, ◌+◌, ◌*◌, ◌<◌}
 use native.Mathlib.Omega.{arith}
 use mathlib.Core.Path.{◌≡◌, refl, sym, ap, ◌∙◌}
 use mathlib.Core.Bool.{Bool, true, false, cond, ◌||◌}
 use Rattle.std.specs.Prelude.{Option, Some, None, Result, Ok, Err}
-use Rattle.std.specs.List.{list_any, position_or_len}
+use Rattle.std.specs.List.{fold, list_any, position_or_len}
 use Rattle.std.proofs.lemmas.List.Sums.{position_or_len_is}
 use borrow.Author.Tests.{eq-eqb, ne_eqb, ltb-true, ltb-false}
 use lib.Dec.{eqb, ltb}
@@ -16,7 +16,7 @@ use Rattle.model.specs.Shape.{Layout}
 use Rattle.model.specs.Moves.{Free}
 use Rattle.model.specs.Visits.{free_slot}
 use Rattle.model.proofs.Search.{full, slot_is}
-use Rattle.model.proofs.ListLaws.{First, bool, first_is, found, in_range, missing, range_in, true_false}
+use Rattle.model.proofs.ListLaws.{First, bool, first_is, found, missing, true_false}
 use Rattle.model.specs.declared.Refusal.{Refusal}
 use Rattle.model.specs.declared.Refusal.TheVariants.{Damaged}
 use Rattle.paths.specs.Buckets.{bucket_damage, bucket_words, sound_free}
@@ -36,6 +36,19 @@ module _ (f : ℕ → Bool) (l : List ℕ) where
       go : {o : Option ℕ} → First f l o → there o ≡ false
       go (found {i = i} p t) = true_false t (h i p)
       go (missing g) = refl
+
+-- an eager fold asks the same
+or_false : (b : Bool) → (b || false) ≡ b
+or_false true = refl
+or_false false = refl
+
+or_or : (b c d : Bool) → ((b || c) || d) ≡ (b || (c || d))
+or_or true c d = refl
+or_or false c d = refl
+
+pub fold_any : (f : ℕ → Bool) (b : Bool) (l : List ℕ) → fold (λ b w. b || f w) b l ≡ (b || list_any f l)
+fold_any f b [] = sym (or_false b)
+fold_any f b (w ∷ l) = fold_any f (b || f w) l ∙ or_or b (f w) (list_any f l)
 
 -- the same test over the words and over the numbers that they stand at
 any_map : (f : ℕ → Bool) (g : ℕ → ℕ) (l : List ℕ) → list_any f (map g l) ≡ any (λ i. f (g i)) l

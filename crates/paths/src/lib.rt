@@ -41,10 +41,14 @@ pub fn words_at(slots: &[u32], b: u32) -> [u32; 4]
 }
 
 // The lowest free slot among a bucket's words, if there is one. Damage comes first: where a bucket has both, a free slot does not count.
+// All four are judged by an eager fold: whether a word is 0 can't be foretold, and `any` branches on it.
 pub fn free_among(words: [u32; 4], m: u32) -> Result<Option<usize>, Refusal>
     ensures { result ≡ sound_free m words }
 {
-    if words.iter().any(|&w| runs::is_damaged(w, m)) {
+    let bad = words
+        .iter()
+        .fold(false, |bad, &w| bad | runs::is_damaged(w, m));
+    if bad {
         return Err(Refusal::Damaged);
     }
     Ok(words.iter().position(|&w| w == 0))

@@ -118,7 +118,12 @@ pub fn set_cut(
     let looked = looking::look_up(&table, g.animal);
     let homes = looked.homes;
     match looked.hit? {
-        None => enter_new(slots, counters, items, g, homes, k),
+        None => {
+            // Copies for enter_new: they are laid out in memory only here, and an update goes by.
+            let granted = g;
+            let its = homes;
+            enter_new(slots, counters, items, granted, its, k)
+        }
         Some(w) => set_held(counters, items, homes, w, g, k),
     }
 }
