@@ -47,18 +47,6 @@ pub record Filling (xs row : List ℕ) (at : ℕ) (before out : List ℕ) (here 
   pub few : here.index ≤ k
   pub long : length out ≡ length before
 
-pub fill_first : (xs row : List ℕ) (at : ℕ) (before : List ℕ) → Filling xs row at before before (record { next = at; index = 0 }) 0
-fill_first xs row at before =
-    record {
-      front = [];
-      put = record { bytes_put = refl; next = omega arith };
-      ahead = refl;
-      inside = omega arith;
-      near = omega arith;
-      few = omega arith;
-      long = refl;
-    }
-
 -- a number more at most
 behind_few : (i b : ℕ) → behind i b ≤ i + 1
 unfolding behind

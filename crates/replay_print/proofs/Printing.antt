@@ -129,16 +129,6 @@ pub record Printing (x : ℕ) (tail : List ℕ) (rest n : ℕ) : Type 0 where
   pub left : rest < 10 ^ (20 - n)
   pub ahead : decimal_of rest ++ drop (20 - n) tail ≡ decimal_of x
 
-pub print_first : (x : ℕ) (tail : List ℕ) → x < 18446744073709551616 → length tail ≡ 20 → Printing x tail x 0
-print_first x tail h l =
-    let k : length tail ≤ 20 = omega arith in
-    record {
-      long = l;
-      few = omega arith;
-      left = omega arith;
-      ahead = ap (λ (t : List ℕ). decimal_of x ++ t) (drop_of_length-le tail k) ∙ append-nil (decimal_of x);
-    }
-
 -- one digit in front of those that are there
 stored : (tail : List ℕ) (i d : ℕ) → i < length tail → drop i (set tail i d) ≡ d ∷ drop (suc i) tail
 stored tail i d h =
@@ -174,9 +164,6 @@ module _ {x : ℕ} {tail : List ℕ} {rest n d : ℕ} (s : Printing x tail rest 
             ∙ ap (λ (l : List ℕ). l ++ drop (20 - n) tail) (sym (decimal_large rest h)) ∙ s.ahead;
       }
 
-  pub print_room : 20 ≤ length (set tail (19 - n) d)
-  print_room = omega (arith, length-set tail (19 - n) d, s.long)
-
   last : rest < 10 → drop (19 - n) (set tail (19 - n) d) ≡ decimal_of x
   last h =
       let m : rest % 10 ≡ rest = omega arith in
@@ -200,9 +187,6 @@ module _ {x : ℕ} {tail : List ℕ} {rest n d : ℕ} (s : Printing x tail rest 
     print_few = omega (arith, p.next, length-take (20 - (19 - n)) (drop (19 - n) (set tail (19 - n) d)))
 
 -- the two digits of a byte
-pub hex_room : (buffer : List ℕ) (at a : ℕ) → at + 2 ≤ length buffer → at + 1 < length (set buffer at a)
-hex_room buffer at a h = omega (arith, length-set buffer at a)
-
 pub hex_put : (b at a c : ℕ) (buffer : List ℕ) → a ≡ hex_digit (b / 16) → c ≡ hex_digit (b % 16)
     → Put (hex_of b) at buffer (set (set buffer at a) (at + 1) c) (at + 2)
 unfolding hex_of

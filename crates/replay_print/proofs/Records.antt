@@ -19,10 +19,6 @@ pub record Digits (bs : List ℕ) (at : ℕ) (before out : List ℕ) (next i : �
   pub near : next ≡ at + 2 * i
   pub long : length out ≡ length before
 
-pub digits_first : (bs : List ℕ) (at : ℕ) (before : List ℕ) → Digits bs at before before at 0
-digits_first bs at before =
-    record { front = []; put = record { bytes_put = refl; next = omega arith }; ahead = refl; inside = omega arith; near = omega arith; long = refl }
-
 module _ {bs : List ℕ} {at : ℕ} {before out out' : List ℕ} {next i r : ℕ} (s : Digits bs at before out next i) where
   pub digits_more : i < length bs → Put (hex_of (get_or bs i 0)) next out out' r → r ≡ next + 2 → Digits bs at before out' r (i + 1)
   unfolding hexes
@@ -44,9 +40,6 @@ module _ {bs : List ℕ} {at : ℕ} {before out out' : List ℕ} {next i r : ℕ
       let q : s.front ≡ hexes bs = sym (append-nil s.front) ∙ ap (λ (l : List ℕ). s.front ++ hexes l) (sym (drop_of_length-le bs h)) ∙ s.ahead in
       rw (← q) (put_both s.put p)
 
-  pub digits_count : length bs ≤ i → Put (line []) next out out' r → r ≡ at + 2 * length bs + 1
-  digits_count h p = omega (arith, p.next, s.near, s.inside)
-
 -- the first i of n records are there
 pub record Listing (n : ℕ) (bs : List ℕ) (at : ℕ) (before out : List ℕ) (next i : ℕ) : Type 0 where
   pub front : List ℕ
@@ -55,18 +48,6 @@ pub record Listing (n : ℕ) (bs : List ℕ) (at : ℕ) (before out : List ℕ) 
   pub inside : i ≤ n
   pub near : next ≡ at + 41 * i
   pub long : length out ≡ length before
-
-pub records_first : (n : ℕ) (bs : List ℕ) (at : ℕ) (before : List ℕ) → Listing n bs at before before at 0
-records_first n bs at before =
-    let e : n - 0 ≡ n = omega arith in
-    record {
-      front = [];
-      put = record { bytes_put = refl; next = omega arith };
-      ahead = ap (λ (m : ℕ). record_lines m bs) e;
-      inside = omega arith;
-      near = omega arith;
-      long = refl;
-    }
 
 module _ {n : ℕ} {bs : List ℕ} {at : ℕ} {before out : List ℕ} {next i : ℕ} (s : Listing n bs at before out next i) where
   pub records_more : {out' : List ℕ} {r : ℕ} → i < n → 20 * n ≤ length bs → Put (line (hexes (take (20 * i + 20 - 20 * i) (drop (20 * i) bs)))) next out out' r
