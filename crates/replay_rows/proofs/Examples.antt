@@ -28,7 +28,7 @@ use Rattle.replay_lines.specs.Reasons.{behind, furthest, instead, parting, why_n
 use Rattle.replay_lines.specs.Line.{Said, first_row, fitting, said, said_by}
 use Rattle.replay_echo.specs.Echo.{behind as next_number, echo, filled_in, in_place}
 use Rattle.replay_rows.specs.World.{World, reply}
-use Rattle.replay_rows.specs.Meaning.{asks, audits, calls, cut_turns, cuts, hands, judges, lists, meaning, pokes_counters, pokes_items, pokes_slots, says, starts, turns}
+use Rattle.replay_rows.specs.Meaning.{lists, meaning, says, starts}
 use Rattle.replay_rows.specs.Loaded.{loads_run, shown_load}
 use Rattle.replay_rows.specs.Replayed.{answers, language, missed, missed_in, replayed, reply_to, shown, status, unheard_line}
 
@@ -104,7 +104,7 @@ day = bytes "# a day of one cow\nfresh 8 1 4\nset 1 5 2 3\nread 1 720 2\nserve\t
 
 pub day_answered : answers false day
     ≡ bytes "fresh\nstored 1 0\nfresh 5 720\nold -7\ndeleted\nrefused 8\nfresh 5 719\nfresh\nstored 1 0\nfresh 4294967295 26\npoked\nold -4611686018427387904\nevicted 7 3 1\nhand\nrefused 8\nlisted 1\n0700000000000000ffffffffffffffffffffffff\nline 18: not understood: number too large\npoked\nno such word\nline 21: not understood: number too large\nslots 0 0 0 0 0 0 0 0\ncounters 3\nitems 7 4294967295 18446744073709551615 0 9 0 0 0\n"
-unfolding replayed reply_to loading load_of run_named weighed loads_run shown meaning starts asks calls cuts turns cut_turns hands lists pokes_slots pokes_counters pokes_items audits plain_read walk_to said said_by first_row fitting taken bound why_not furthest parting takes behind instead lines words pieces filled before same number number_from value all_digits without_comment without_return without_mark mark_length told numbered reason decimal_of signed_of digits record_lines hexes hex_of hex_digit hash fnv fnv_step low_bytes tag_from odd_up spread other_bucket tag place damaged range first good_lengths good_slots good_counters good_items hits hit vacant_place some_live visits next_level hops first_free free_slot lowest climb is_fresh left_of verdict next_hand seek_victim passed_recent slot_of list_record records live_count listing stores
+unfolding replayed reply_to loading load_of run_named weighed loads_run shown meaning starts lists plain_read walk_to said said_by first_row fitting taken bound why_not furthest parting takes behind instead lines words pieces filled before same number number_from value all_digits without_comment without_return without_mark mark_length told numbered reason decimal_of signed_of digits record_lines hexes hex_of hex_digit hash fnv fnv_step low_bytes tag_from odd_up spread other_bucket tag place damaged range first good_lengths good_slots good_counters good_items hits hit vacant_place some_live visits next_level hops first_free free_slot lowest climb is_fresh left_of verdict next_hand seek_victim passed_recent slot_of list_record records live_count listing stores
 day_answered = refl
 
 -- a table is judged before the first fresh, fresh, with a cow, in the middle of a set, and with a twin
@@ -113,7 +113,7 @@ dump_judged = bytes "judge\nfresh 8 1 8\njudge\nset 1 5 2 3\njudge\ncut 1 set 1 
 
 pub dump_is_judged : answers false dump_judged
     ≡ bytes "no 1 0\nfresh\nyes\nstored 1 0\nyes\nstored 0 0\nno 3 0\npoked\npoked\npoked\nno 6 0\nline 12: not understood: too many numbers\n"
-unfolding judges judgement count names twin right_word is_stray is_unsought is_doubled is_misshapen replayed reply_to loading load_of run_named weighed loads_run shown meaning starts asks calls cuts turns cut_turns hands lists pokes_slots pokes_counters pokes_items audits plain_read walk_to said said_by first_row fitting taken bound why_not furthest parting takes behind instead lines words pieces filled before same number number_from value all_digits without_comment without_return without_mark mark_length told numbered reason decimal_of signed_of digits record_lines hexes hex_of hex_digit hash fnv fnv_step low_bytes tag_from odd_up spread other_bucket tag place damaged range first good_lengths good_slots good_counters good_items hits hit vacant_place some_live visits next_level hops first_free free_slot lowest climb is_fresh left_of verdict next_hand seek_victim passed_recent slot_of list_record records live_count listing stores
+unfolding judgement count names twin right_word is_stray is_unsought is_doubled is_misshapen replayed reply_to loading load_of run_named weighed loads_run shown meaning starts lists plain_read walk_to said said_by first_row fitting taken bound why_not furthest parting takes behind instead lines words pieces filled before same number number_from value all_digits without_comment without_return without_mark mark_length told numbered reason decimal_of signed_of digits record_lines hexes hex_of hex_digit hash fnv fnv_step low_bytes tag_from odd_up spread other_bucket tag place damaged range first good_lengths good_slots good_counters good_items hits hit vacant_place some_live visits next_level hops first_free free_slot lowest climb is_fresh left_of verdict next_hand seek_victim passed_recent slot_of list_record records live_count listing stores
 dump_is_judged = refl
 
 -- a set in steps: a plan, its final store, a move that was in no plan; a tag that is right but for its 33rd bit, and who is held by now
@@ -122,7 +122,7 @@ in_steps = bytes "fresh 8 1 8\nplan 1 5 2 3\nenter 0 0 1 5 2 3\nmove 0 62 4 7 5 
 
 pub in_steps_answered : answers false in_steps
     ≡ bytes "fresh\nplanned 0 0\nentered\nmoved\nfresh 5 720\nrefused 12\nrefused 12\nrefused 12\nplanned 1 0\nrefused 12\nentered\nline 12: not understood: number too large\nslots 8585217 0 0 0 4063232 0 0 0\ncounters 6\nitems 1 5 2 1 7 1 3 1\n"
-unfolding may_move may_enter replayed reply_to loading load_of run_named weighed loads_run shown meaning starts asks calls cuts turns cut_turns hands lists pokes_slots pokes_counters pokes_items audits plain_read walk_to said said_by first_row fitting taken bound why_not furthest parting takes behind instead lines words pieces filled before same number number_from value all_digits without_comment without_return without_mark mark_length told numbered reason decimal_of signed_of digits record_lines hexes hex_of hex_digit hash fnv fnv_step low_bytes tag_from odd_up spread other_bucket tag place damaged range first good_lengths good_slots good_counters good_items hits hit vacant_place some_live visits next_level hops first_free free_slot lowest climb is_fresh left_of verdict next_hand seek_victim passed_recent slot_of list_record records live_count listing stores
+unfolding may_move may_enter replayed reply_to loading load_of run_named weighed loads_run shown meaning starts lists plain_read walk_to said said_by first_row fitting taken bound why_not furthest parting takes behind instead lines words pieces filled before same number number_from value all_digits without_comment without_return without_mark mark_length told numbered reason decimal_of signed_of digits record_lines hexes hex_of hex_digit hash fnv fnv_step low_bytes tag_from odd_up spread other_bucket tag place damaged range first good_lengths good_slots good_counters good_items hits hit vacant_place some_live visits next_level hops first_free free_slot lowest climb is_fresh left_of verdict next_hand seek_victim passed_recent slot_of list_record records live_count listing stores
 in_steps_answered = refl
 
 -- a text behind a byte order mark, with the calls shown, and how many of its lines are not understood
@@ -132,7 +132,7 @@ hour = 239 ∷ 187 ∷ 191 ∷ bytes "fresh 8 1 4\n\n# two lines without a call\
 pub hour_answered : (answers true hour
     ≡ bytes "1: fresh 8 1 4 -> fresh\n4: read 1 720 2 -> absent\n5: list 20 -> listed 0\nline 6: not understood: too few numbers\n7: dump -> slots 0 0 0 0 0 0 0 0\ncounters 0\nitems 0 0 0 0\n")
     × (missed hour ≡ 1)
-unfolding missed_in unheard_line echo filled_in in_place next_number replayed reply_to loading load_of run_named weighed loads_run shown_load shown meaning starts asks calls cuts turns cut_turns hands lists pokes_slots pokes_counters pokes_items audits plain_read walk_to said said_by first_row fitting taken bound why_not furthest parting takes behind instead lines words pieces filled before same number number_from value all_digits without_comment without_return without_mark mark_length told numbered reason decimal_of signed_of digits record_lines hexes hex_of hex_digit hash fnv fnv_step low_bytes tag_from odd_up spread other_bucket tag place damaged range first good_lengths good_slots good_counters good_items hits hit vacant_place some_live visits next_level hops first_free free_slot lowest climb is_fresh left_of verdict next_hand seek_victim passed_recent slot_of list_record records live_count listing stores
+unfolding missed_in unheard_line echo filled_in in_place next_number replayed reply_to loading load_of run_named weighed loads_run shown_load shown meaning starts lists plain_read walk_to said said_by first_row fitting taken bound why_not furthest parting takes behind instead lines words pieces filled before same number number_from value all_digits without_comment without_return without_mark mark_length told numbered reason decimal_of signed_of digits record_lines hexes hex_of hex_digit hash fnv fnv_step low_bytes tag_from odd_up spread other_bucket tag place damaged range first good_lengths good_slots good_counters good_items hits hit vacant_place some_live visits next_level hops first_free free_slot lowest climb is_fresh left_of verdict next_hand seek_victim passed_recent slot_of list_record records live_count listing stores
 hour_answered = (refl, refl)
 
 -- a dump is loaded line by line and printed again; the hand stays, the words that are not understood do nothing, and a run may be emptied
@@ -142,13 +142,13 @@ loaded_day = bytes "counters 2\nslots 4063232 0 0 0 0 0 0 0\nhand 1\nitems 1 5 2
 pub loaded_day_answered : (answers false loaded_day
     ≡ bytes "loaded\nloaded\nhand\nloaded\nslots 4063232 0 0 0 0 0 0 0\ncounters 2\nitems 1 5 2 1 0 0 0 0\nline 6: not understood: unknown word\nline 7: not understood: number too large\nfresh 5 720\nevicted 1 4 1\nloaded\nrefused 1\n")
     × (missed loaded_day ≡ 2)
-unfolding missed_in unheard_line echo filled_in in_place next_number replayed reply_to loading load_of run_named weighed loads_run shown_load shown meaning starts asks calls cuts turns cut_turns hands lists pokes_slots pokes_counters pokes_items audits plain_read walk_to said said_by first_row fitting taken bound why_not furthest parting takes behind instead lines words pieces filled before same number number_from value all_digits without_comment without_return without_mark mark_length told numbered reason decimal_of signed_of digits record_lines hexes hex_of hex_digit hash fnv fnv_step low_bytes tag_from odd_up spread other_bucket tag place damaged range first good_lengths good_slots good_counters good_items hits hit vacant_place some_live visits next_level hops first_free free_slot lowest climb is_fresh left_of verdict next_hand seek_victim passed_recent slot_of list_record records live_count listing stores
+unfolding missed_in unheard_line echo filled_in in_place next_number replayed reply_to loading load_of run_named weighed loads_run shown_load shown meaning starts lists plain_read walk_to said said_by first_row fitting taken bound why_not furthest parting takes behind instead lines words pieces filled before same number number_from value all_digits without_comment without_return without_mark mark_length told numbered reason decimal_of signed_of digits record_lines hexes hex_of hex_digit hash fnv fnv_step low_bytes tag_from odd_up spread other_bucket tag place damaged range first good_lengths good_slots good_counters good_items hits hit vacant_place some_live visits next_level hops first_free free_slot lowest climb is_fresh left_of verdict next_hand seek_victim passed_recent slot_of list_record records live_count listing stores
 loaded_day_answered = (refl, refl)
 
 -- the words of a loaded run are not shown again, and nothing is shown of a line that is not understood
 pub loads_shown : answers true (bytes "\nslots 007 # one\nitems 1 -1\ncounters")
     ≡ bytes "2: slots .. -> loaded\nline 3: not understood: unknown word\n4: counters .. -> loaded\n"
-unfolding missed_in unheard_line echo filled_in in_place next_number replayed reply_to loading load_of run_named weighed loads_run shown_load shown meaning starts asks calls cuts turns cut_turns hands lists pokes_slots pokes_counters pokes_items audits plain_read walk_to said said_by first_row fitting taken bound why_not furthest parting takes behind instead lines words pieces filled before same number number_from value all_digits without_comment without_return without_mark mark_length told numbered reason decimal_of signed_of digits record_lines hexes hex_of hex_digit hash fnv fnv_step low_bytes tag_from odd_up spread other_bucket tag place damaged range first good_lengths good_slots good_counters good_items hits hit vacant_place some_live visits next_level hops first_free free_slot lowest climb is_fresh left_of verdict next_hand seek_victim passed_recent slot_of list_record records live_count listing stores
+unfolding missed_in unheard_line echo filled_in in_place next_number replayed reply_to loading load_of run_named weighed loads_run shown_load shown meaning starts lists plain_read walk_to said said_by first_row fitting taken bound why_not furthest parting takes behind instead lines words pieces filled before same number number_from value all_digits without_comment without_return without_mark mark_length told numbered reason decimal_of signed_of digits record_lines hexes hex_of hex_digit hash fnv fnv_step low_bytes tag_from odd_up spread other_bucket tag place damaged range first good_lengths good_slots good_counters good_items hits hit vacant_place some_live visits next_level hops first_free free_slot lowest climb is_fresh left_of verdict next_hand seek_victim passed_recent slot_of list_record records live_count listing stores
 loads_shown = refl
 
 -- the longest runs that the program holds, and longer ones

@@ -23,21 +23,21 @@ abbrev pub answer : World → Call → Answer
 answer w c = (lent_call four w.memory c).answer
 
 -- a call that only reads
-unfoldable pub asks : Call → World → Reply
+abbrev pub asks : Call → World → Reply
 asks c w = says (text (answer w c)) w
 
 -- a call, and one that is cut behind its first k stores: it answers as the whole one
-unfoldable pub calls : Call → World → Reply
+abbrev pub calls : Call → World → Reply
 calls c w = reply (text (answer w c)) (lent_after four w.memory c) w.hand
 
-unfoldable pub cuts : ℕ → Call → World → Reply
+abbrev pub cuts : ℕ → Call → World → Reply
 cuts k c w = reply (text (answer w c)) (lent_cut four k w.memory c) w.hand
 
 -- evict takes the hand and gives it back
-unfoldable pub turns : World → Reply
+abbrev pub turns : World → Reply
 turns w = reply (text (answer w (evict w.hand))) (lent_after four w.memory (evict w.hand)) (hand_back w.hand (answer w (evict w.hand)))
 
-unfoldable pub cut_turns : ℕ → World → Reply
+abbrev pub cut_turns : ℕ → World → Reply
 cut_turns k w = reply (text (answer w (evict w.hand))) (lent_cut four k w.memory (evict w.hand)) (hand_back w.hand (answer w (evict w.hand)))
 
 -- fresh: a table of these lengths, all zero, and the hand at 0, if the program holds as much and the lengths are good; else the table there was
@@ -50,7 +50,7 @@ starts s v i w =
     (says (text (refused 1)) w)
 
 -- the hand is given
-unfoldable pub hands : ℕ → World → Reply
+abbrev pub hands : ℕ → World → Reply
 hands h w = reply (line (bytes "hand")) w.memory h
 
 -- the list into a buffer of that size, which a B keeps to the program's own
@@ -58,27 +58,27 @@ unfoldable pub lists : ℕ → World → Reply
 lists size w = asks (write_list (min size 81920)) w
 
 -- a poke of one of the runs
-unfoldable pub pokes_slots : ℕ → ℕ → World → Reply
+abbrev pub pokes_slots : ℕ → ℕ → World → Reply
 pokes_slots i x w =
     reply (poke_told (can_poke 4294967295 i x w.memory.slots))
     (mem (poked 4294967295 i x w.memory.slots) w.memory.counters w.memory.items) w.hand
 
-unfoldable pub pokes_counters : ℕ → ℕ → World → Reply
+abbrev pub pokes_counters : ℕ → ℕ → World → Reply
 pokes_counters i x w =
     reply (poke_told (can_poke 4294967295 i x w.memory.counters))
     (mem w.memory.slots (poked 4294967295 i x w.memory.counters) w.memory.items) w.hand
 
-unfoldable pub pokes_items : ℕ → ℕ → World → Reply
+abbrev pub pokes_items : ℕ → ℕ → World → Reply
 pokes_items i x w =
     reply (poke_told (can_poke 18446744073709551615 i x w.memory.items))
     (mem w.memory.slots w.memory.counters (poked 18446744073709551615 i x w.memory.items)) w.hand
 
 -- the plain engine looks at the items and at nothing else
-unfoldable pub audits : ℕ → ℕ → ℕ → World → Reply
+abbrev pub audits : ℕ → ℕ → ℕ → World → Reply
 audits x limit now w = says (text (plain_read w.memory.items x limit now)) w
 
 -- the three runs are judged
-unfoldable pub judges : World → Reply
+abbrev pub judges : World → Reply
 judges w = says (judged (judgement four w.memory)) w
 
 -- a row: what a line says, and what it means, by the numbers in it

@@ -1,11 +1,78 @@
-// The replay program's language: its rows and what they mean stand in specs/. Here is what is asked of a row beside that, and what a line's turn gives back.
+// The replay program's language: its rows and what they mean stand in specs/. Here are the rows by name, what is asked of a row beside its meaning, and what a line's turn gives back.
 #![tactic(auto)]
 
 ghost use Rattle.std.specs.Prelude.{◌≡◌, ◌+◌, ◌≤◌, length};
 ghost use Rattle.buffer.specs.Put.{Put};
+ghost use Rattle.replay_loads.specs.Load.{run_number};
 ghost use Rattle.replay_rows.specs.World.{longest_call};
 ghost use Rattle.replay_rows.specs.Loaded.{shown_load};
+ghost use Rattle.replay_rows.specs.Rows.{Numbers};
 ghost use Rattle.replay_rows.specs.Replayed.{language, shown, status as status_of};
+
+use replay_loads::Run;
+
+// The rows of the language, in its order.
+#[derive(Clone, Copy, Debug, PartialEq, Eq)]
+pub enum Row {
+    Serve = 0,
+    Read = 1,
+    Set = 2,
+    Delete = 3,
+    Evict = 4,
+    CutSet = 5,
+    CutDelete = 6,
+    CutEvict = 7,
+    Hand = 8,
+    List = 9,
+    PokeSlots = 10,
+    PokeCounters = 11,
+    PokeItems = 12,
+    Dump = 13,
+    Fresh = 14,
+    Plain = 15,
+    Judge = 16,
+    Plan = 17,
+    Move = 18,
+    Enter = 19,
+    Blank = 20,
+}
+
+// A number that no row has.
+#[derive(Clone, Copy, Debug, PartialEq, Eq)]
+pub struct NoRow(pub usize);
+
+impl TryFrom<usize> for Row {
+    type Error = NoRow;
+
+    ghost try_from_gives = { Numbers };
+
+    fn try_from(number: usize) -> Result<Row, NoRow> {
+        match number {
+            0 => Ok(Row::Serve),
+            1 => Ok(Row::Read),
+            2 => Ok(Row::Set),
+            3 => Ok(Row::Delete),
+            4 => Ok(Row::Evict),
+            5 => Ok(Row::CutSet),
+            6 => Ok(Row::CutDelete),
+            7 => Ok(Row::CutEvict),
+            8 => Ok(Row::Hand),
+            9 => Ok(Row::List),
+            10 => Ok(Row::PokeSlots),
+            11 => Ok(Row::PokeCounters),
+            12 => Ok(Row::PokeItems),
+            13 => Ok(Row::Dump),
+            14 => Ok(Row::Fresh),
+            15 => Ok(Row::Plain),
+            16 => Ok(Row::Judge),
+            17 => Ok(Row::Plan),
+            18 => Ok(Row::Move),
+            19 => Ok(Row::Enter),
+            20 => Ok(Row::Blank),
+            _ => Err(NoRow(number)),
+        }
+    }
+}
 
 // The position behind the answer, and the hand afterwards.
 #[derive(Drop)]
@@ -15,6 +82,7 @@ pub struct Turn {
 }
 
 // A line's number and call before its answer, if they are to be shown.
+#[tactic(auto, unfolding(crate::specs::Replayed::shown))]
 pub fn show_call(
     rows: &[u8],
     echo: bool,
@@ -28,39 +96,32 @@ pub fn show_call(
     ensures { Put (shown echo number row numbers.now) at out.old out.new result × (result ≤ at + longest_call) }
 {
     if echo {
-        return replay_echo::put_echo(rows, row, numbers, number, out, at);
+        replay_echo::put_echo(rows, row, numbers, number, out, at)
+    } else {
+        at
     }
-    at
 }
 
 // The same of a line of a dump: its run's name, and not the words again.
-pub fn show_load(echo: bool, run: usize, number: u64, out: &mut [u8], at: usize) -> usize
+#[tactic(auto, unfolding(crate::specs::Loaded::shown_load))]
+pub fn show_load(echo: bool, run: Run, number: u64, out: &mut [u8], at: usize) -> usize
     requires { at + longest_call ≤ length out.old }
-    ensures { Put (shown_load echo number run) at out.old out.new result × (result ≤ at + longest_call) }
+    ensures { Put (shown_load echo number (run_number run)) at out.old out.new result × (result ≤ at + longest_call) }
 {
     if !echo {
         return at;
     }
-    let none = [0u64; 0];
-    replay_echo::put_echo(
-        b"slots ..\ncounters ..\nitems ..\n",
-        run,
-        &none,
-        number,
-        out,
-        at,
-    )
+    let lines = b"slots ..\ncounters ..\nitems ..\n";
+    replay_echo::put_echo(lines, run as usize, &[], number, out, at)
 }
 
-// The status of a replay: whether its answers could be written, and how many of its lines were not understood.
+// The status of a replay: whether its answers could be written, and how many of its lines were not understood. A process ends with a number.
 pub fn status(written: bool, missed: u64) -> u8
     ensures { result ≡ status_of written missed }
 {
-    if !written {
-        return 1;
+    match (written, missed) {
+        (false, _) => 1,
+        (true, 0) => 0,
+        (true, _) => 2,
     }
-    if missed == 0 {
-        return 0;
-    }
-    2
 }
