@@ -11,9 +11,7 @@ use Rattle.replay_calls.specs.Told.{Told, Whole, answer_of}
 
 module _ {m : Mem} {at next h : ℕ} {before after : List ℕ} (c : Call) where
   pub asked : Told (answer_of m c) at before after next → Replied (asks c (world m h)) m at before after (record { next = next; hand = h })
-  unfolding asks
   asked t = record { put = t.line; near = omega (arith, t.room); left = refl; hand = refl }
 
   pub called : {m' : Mem} → Whole m c m' at before after next → Replied (calls c (world m h)) m' at before after (record { next = next; hand = h })
-  unfolding calls
   called w = record { put = w.told.line; near = omega (arith, w.told.room); left = w.left; hand = refl }

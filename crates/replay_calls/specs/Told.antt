@@ -1,5 +1,5 @@
 -- An answer's line in the buffer of the replay program. Assumes nothing.
-use Rattle.std.specs.Prelude.{ℕ, ◌+◌, ◌≤◌, ◌≡◌, List}
+use Rattle.std.specs.Prelude.{ℕ, ◌+◌, ◌≤◌, ◌≡◌, List, Option, Some, None}
 use Rattle.model.specs.Memory.{Mem}
 use Rattle.model.specs.Shape.{four}
 use Rattle.model.specs.Answers.{Answer}
@@ -26,3 +26,8 @@ pub record Whole (m : Mem) (c : Call) (m' : Mem) (at : ℕ) (before after : List
 pub record Cut (m : Mem) (c : Call) (k : ℕ) (m' : Mem) (at : ℕ) (before after : List ℕ) (r : ℕ) : Type 0 where
   pub told : Told (answer_of m c) at before after r
   pub left : m' ≡ lent_cut four k m c
+
+-- the whole call was made, or its cut form
+abbrev pub Made : Option ℕ → Mem → Call → (m' : Mem) (at : ℕ) (before after : List ℕ) (r : ℕ) → Type 0
+Made None m c = Whole m c
+Made (Some k) m c = Cut m c k
