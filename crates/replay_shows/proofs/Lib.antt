@@ -1,3 +1,3 @@
-pub mod Poke
+pub mod Poking
 pub mod Listed
 pub mod Beside

@@ -2,6 +2,7 @@
 use Prim.Native.Nat.{ℕ, ◌*◌, ◌/◌, ◌≤◌}
 use native.Mathlib.Omega.{arith}
 use mathlib.Core.Path.{◌≡◌, refl, ap}
+use Rattle.std.specs.Prelude.{Result, Ok, Err, IfOk}
 use mathlib.Core.List.{List}
 use lib.ListN.{length, take}
 use lib.Dec.{ltb}
@@ -15,12 +16,11 @@ use Rattle.model.specs.Calls.{refuse, tell}
 use Rattle.model.specs.Calling.{write_list}
 use Rattle.model.specs.Lent.{lent_call}
 use Rattle.model.specs.Said.{said_listing}
-use Rattle.model.specs.declared.Listing.{Listing}
-use Rattle.model.specs.declared.Listing.TheVariants as list
+use Rattle.model.specs.declared.Refusal.{Refusal}
 use Rattle.model.proofs.ListLaws.{bool}
 use Rattle.buffer.specs.Put.{Put}
 use Rattle.listing.specs.List.{ListedAs}
-use Rattle.replay_answers.specs.Text.{Counted, text}
+use Rattle.replay_answers.specs.Text.{text}
 
 -- a list that is told has 20 bytes of the buffer for each record
 listed_fits : (l : List ℕ) (M size n : ℕ) (bs : List ℕ) → listed n bs ≡ listing l M size → 20 * n ≤ size
@@ -39,10 +39,10 @@ lent_fits m size n bs =
     λ _ e. let z : ◌≡◌ {A = ℕ} 0 1 = ap (λ (a : Answer). (paper a).number) e in absurd (omega arith)
 
 module _ {m : Mem} {before after : List ℕ} where
-  pub listed_counted : (said : Listing) → length after ≡ length before → ListedAs four m before after said → Counted said after
-  listed_counted (list.Listed n) l p = omega (arith, l, lent_fits m (length before) n (take (20 * n) after) p.told)
-  listed_counted (list.Refused n) l p = tt
+  pub listed_counted : (said : Result ℕ Refusal) → length after ≡ length before → ListedAs four m before after said → IfOk said (λ n. 20 * n ≤ length after)
+  listed_counted (Ok n) l p = omega (arith, l, lent_fits m (length before) n (take (20 * n) after) p.told)
+  listed_counted (Err _) l p = tt
 
-  pub listed_text : {said : Listing} {at r : ℕ} {out out' : List ℕ} → ListedAs four m before after said → Put (text (said_listing said after)) at out out' r
+  pub listed_text : {said : Result ℕ Refusal} {at r : ℕ} {out out' : List ℕ} → ListedAs four m before after said → Put (text (said_listing said after)) at out out' r
       → Put (text (lent_call four m (write_list (length before))).answer) at out out' r
   listed_text p q = rw (← p.told) q

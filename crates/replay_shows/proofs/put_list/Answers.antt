@@ -4,7 +4,7 @@ use borrow.Author.Rules.{rules}
 use Rattle.replay_shows.proofs.put_list.Goals as goal
 
 pub put_listing-requires : goal.put_listing-requires
-put_listing-requires c = record { counted = search listed_counted; records_in_bounds = search rules }
+put_listing-requires c = record { counted = listed_counted c.list-said.result (search rules) c.list-said.ensures; records_in_bounds = search rules }
 
 pub returns : goal.returns
 returns c = (search listed_text, search rules)
