@@ -3,6 +3,7 @@ use Prim.Native.Nat.{ℕ, ◌+◌, ◌/◌, ◌≤◌, ◌<◌}
 use native.Mathlib.Omega.{arith}
 use mathlib.Core.Path.{◌≡◌, ap, subst, ◌∙◌}
 use mathlib.Core.Logic.{◌≢◌}
+use Rattle.std.specs.Prelude.{Result, IfOk}
 use mathlib.Core.List.{List}
 use lib.ListN.{get_or}
 use lib.Dec.{eqb}
@@ -17,14 +18,15 @@ use Rattle.model.specs.Promised.{Did, WholeAs}
 use Rattle.model.specs.Said.{plan_of, said_plan}
 use Rattle.model.specs.declared.Grant.{Grant}
 use Rattle.model.specs.declared.Plan.{Plan}
+use Rattle.model.specs.declared.Refusal.{Refusal}
 use Rattle.model.proofs.PlanSaid.{plan_few, plan_said}
 use Rattle.buffer.specs.Put.{Put}
 use Rattle.replay_answers.specs.Text.{text}
 use Rattle.replay_calls.specs.Told.{Told, Whole, answer_of}
 use Rattle.replay_calls.proofs.Tell.{told_as, whole_as}
 
-module _ (m : Mem) (g : Grant) {b : Plan} (e : b ≡ plan_of (lent_call four m (plan_set g)).answer) where
-  pub four_at_most : b.count ≤ 4
+module _ (m : Mem) (g : Grant) {b : Result Plan Refusal} (e : b ≡ plan_of (lent_call four m (plan_set g)).answer) where
+  pub four_at_most : IfOk b (λ (p : Plan). p.count ≤ 4)
   four_at_most = rw e (plan_few four m g)
 
   pub told_plan : {at r : ℕ} {before after : List ℕ} → Put (text (said_plan b)) at before after r × (r ≤ at + 384)
