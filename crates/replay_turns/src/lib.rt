@@ -1,67 +1,23 @@
-// One line of a replay on the table there is: the row it follows says which call it makes.
+// One line of a replay on the table there is: the row it follows says which call it makes. The runs, the buffers and the position stay
+// parameters of their own: a struct round a `&mut` would need a clause on its name in every contract.
 #![tactic(auto)]
 
-ghost use Rattle.std.specs.Prelude.{◌≡◌, ◌≢◌, ◌≤◌, length};
+ghost use Rattle.std.specs.Prelude.{◌≡◌, ◌≢◌, Ok, length};
 ghost use Rattle.model.specs.Memory.{mem};
 ghost use Rattle.replay_rows.specs.World.{Ample, Replied, world};
-ghost use Rattle.replay_rows.specs.Meaning.{meaning};
+ghost use Rattle.replay_rows.specs.Rows.{meaning_of};
+ghost use Rattle.replay_rows.specs.declared.Row.TheVariants as row;
 
-use replay_rows::Turn;
+use model::Table;
+use replay_lines::Reason;
+use replay_rows::{Row, Turn};
 
-// Rows 0 to 4: serve, read, set, delete, evict.
-fn whole_call(
-    row: usize,
-    number: u64,
-    numbers: &[u64],
-    slots: &mut [u32],
-    counters: &mut [u32],
-    items: &mut [u64],
-    out: &mut [u8],
-    at: usize,
-    hand: usize,
-) -> Turn
-    requires row_bound { (row ≤ 4) × (length numbers.now ≡ 8) }
-    requires ample { Ample (mem slots.old counters.old items.old) at out.old }
-    ensures { Replied (meaning row number numbers.now (world (mem slots.old counters.old items.old) hand))
-        (mem slots.new counters.new items.new) at out.old out.new result }
-{
-    let a = numbers[0];
-    let b = numbers[1];
-    let c = numbers[2];
-    let d = numbers[3];
-    match row {
-        0 => Turn {
-            next: replay_calls::answer_serve(slots, counters, items, a, b, c, out, at),
-            hand,
-        },
-        1 => Turn {
-            next: replay_calls::answer_read(slots, counters, items, a, b, c, out, at),
-            hand,
-        },
-        2 => Turn {
-            next: replay_calls::answer_set(
-                slots,
-                counters,
-                items,
-                replay_calls::granted(a, b, c, d),
-                out,
-                at,
-            ),
-            hand,
-        },
-        3 => Turn {
-            next: replay_calls::answer_delete(slots, counters, items, a, out, at),
-            hand,
-        },
-        _ => replay_calls::answer_evict(slots, counters, items, hand, out, at),
-    }
-}
-
-// A line that makes no fresh table: its call on the table there is, its answer, and the hand afterwards.
+// A line that makes no fresh table: its call on the table there is, its answer, and the hand afterwards. Of one that follows no row, why.
+#[tactic(auto, unfolding(replay_rows::specs::Meaning::meaning))]
 pub fn on_table(
-    row: usize,
+    follows: Result<Row, Reason>,
     number: u64,
-    numbers: &[u64],
+    numbers: &[u64; 8],
     slots: &mut [u32],
     counters: &mut [u32],
     items: &mut [u64],
@@ -70,25 +26,107 @@ pub fn on_table(
     at: usize,
     hand: usize,
 ) -> Turn
-    requires row_nonzero { (row ≢ 14) × (length numbers.now ≡ 8) × (length records.old ≡ 81920) }
+    requires no_fresh { (follows ≢ Ok row.Fresh) × (length records.old ≡ 81920) }
     requires ample { Ample (mem slots.old counters.old items.old) at out.old }
-    ensures { Replied (meaning row number numbers.now (world (mem slots.old counters.old items.old) hand))
+    ensures { Replied (meaning_of follows number numbers.now (world (mem slots.old counters.old items.old) hand))
         (mem slots.new counters.new items.new) at out.old out.new result }
 {
-    if row <= 4 {
-        return whole_call(row, number, numbers, slots, counters, items, out, at, hand);
-    }
-    if row <= 7 {
-        return replay_cuts::cut_call(row, number, numbers, slots, counters, items, out, at, hand);
-    }
-    if 17 <= row {
-        if row <= 19 {
-            return replay_plans::planned_call(
-                row, number, numbers, slots, counters, items, out, at, hand,
-            );
+    let [a, b, c, d, ..] = *numbers;
+    let table = Table {
+        slots,
+        counters,
+        items,
+    };
+    let row = match follows {
+        Ok(row) => row,
+        Err(why) => {
+            return Turn {
+                next: replay_answers::put_not_understood(out, at, number, why),
+                hand,
+            };
         }
+    };
+    match row {
+        Row::Serve => Turn {
+            next: replay_calls::answer_serve(slots, counters, items, a, b, c, out, at),
+            hand,
+        },
+        Row::Read => Turn {
+            next: replay_calls::answer_read(&table, a, b, c, out, at),
+            hand,
+        },
+        Row::Set => {
+            let g = replay_calls::granted(a, b, c, d);
+            Turn {
+                next: replay_calls::answer_set(slots, counters, items, g, None, out, at),
+                hand,
+            }
+        }
+        Row::Delete => Turn {
+            next: replay_calls::answer_delete(slots, counters, items, a, None, out, at),
+            hand,
+        },
+        Row::Evict => replay_calls::answer_evict(slots, counters, items, hand, None, out, at),
+        Row::CutSet => Turn {
+            next: replay_cuts::cut_set(numbers, slots, counters, items, out, at),
+            hand,
+        },
+        Row::CutDelete => Turn {
+            next: replay_cuts::cut_delete(numbers, slots, counters, items, out, at),
+            hand,
+        },
+        Row::CutEvict => replay_cuts::cut_evict(numbers, slots, counters, items, out, at, hand),
+        Row::Hand => Turn {
+            next: replay_print::put_line(out, at, b"hand"),
+            hand: a as usize,
+        },
+        Row::List => replay_shows::list_line(a, &table, records, out, at, hand),
+        Row::PokeSlots => {
+            let poked = replay_shows::poke(slots, a, b);
+            Turn {
+                next: replay_answers::put_poked(out, at, poked),
+                hand,
+            }
+        }
+        Row::PokeCounters => {
+            let poked = replay_shows::poke(counters, a, b);
+            Turn {
+                next: replay_answers::put_poked(out, at, poked),
+                hand,
+            }
+        }
+        Row::PokeItems => {
+            let poked = replay_shows::poke(items, a, b);
+            Turn {
+                next: replay_answers::put_poked(out, at, poked),
+                hand,
+            }
+        }
+        Row::Dump => Turn {
+            next: replay_answers::put_dump(out, at, &table),
+            hand,
+        },
+        Row::Fresh => unreachable!(),
+        Row::Plain => Turn {
+            next: replay_shows::put_plain(items, a, b, c, out, at),
+            hand,
+        },
+        Row::Judge => Turn {
+            next: replay_shows::put_verdict(&table, out, at),
+            hand,
+        },
+        Row::Plan => Turn {
+            next: replay_plans::answer_plan(numbers, &table, out, at),
+            hand,
+        },
+        Row::Move => Turn {
+            next: replay_plans::answer_move(numbers, slots, counters, items, out, at),
+            hand,
+        },
+        Row::Enter => Turn {
+            next: replay_plans::answer_enter(numbers, slots, counters, items, out, at),
+            hand,
+        },
+        Row::Blank => Turn { next: at, hand },
     }
-    replay_shows::beside_the_calls(
-        row, number, numbers, slots, counters, items, records, out, at, hand,
-    )
 }
