@@ -3,6 +3,7 @@ use Prim.Native.Nat.{ℕ, ◌+◌, ◌/◌, ◌≤◌, ◌<◌}
 use native.Mathlib.Omega.{arith}
 use mathlib.Core.Path.{◌≡◌, refl, sym, ap, ap₂, ◌∙◌}
 use mathlib.Core.Bool.{true, false, ◌&&◌}
+use Rattle.std.specs.Prelude.{Result, Ok, Err}
 use mathlib.Core.List.{List, ◌++◌}
 use lib.ListN.{length, get_or, take, drop, length-append, length-drop, take-append-drop}
 use lib.Seq.{length-take-le, take_at}
@@ -13,8 +14,7 @@ use Rattle.model.specs.Shape.{four, good_lengths, right_lengths, fresh_memory, s
 use Rattle.model.specs.Answers.{Answer, started, refused, paper}
 use Rattle.model.specs.Promised.{FreshAs}
 use Rattle.model.specs.Said.{said_starting}
-use Rattle.model.specs.declared.Starting.{Starting}
-use Rattle.model.specs.declared.Starting.TheVariants as starting
+use Rattle.model.specs.declared.Refusal.{Refusal}
 use Rattle.model.proofs.ListLaws.{bool}
 use Rattle.buffer.specs.Put.{Put}
 use Rattle.replay_print.specs.Text.{bytes}
@@ -138,7 +138,7 @@ module _ {slots counters items : List ℕ} {st : State} (s v i : ℕ) (k : Held 
   held_is : holds s v i ≡ true
   held_is = rw (le-leb s 8192 (omega (arith, k.all_slots)), le-leb v 1024 (omega (arith, k.all_counters)), le-leb i 4096 (omega (arith, k.all_items)))
 
-  pub fresh_refused : {ys cs zs out out' : List ℕ} {r : State} {said : Starting} {n : ℕ} → said ≡ starting.Refused n
+  pub fresh_refused : {ys cs zs out out' : List ℕ} {r : State} {said : Result Unit Refusal} {n : Refusal} → said ≡ Err n
       → FreshAs four (mem (take s slots) (take v counters) (take i items)) (mem ys cs zs) (said_starting said) → Refused st out out' r
       → Stepped (starts s v i (in_use slots counters items st)) st r (ys ++ drop s slots) (cs ++ drop v counters) (zs ++ drop i items) out out'
   fresh_refused {ys} {cs} {zs} {out} {out'} {r} {said} {n} e f q =
@@ -155,7 +155,7 @@ module _ {slots counters items : List ℕ} {st : State} (s v i : ℕ) (k : Held 
       rw (a, b, c) (unchanged s v i k q (rw (held_is, ← lengths_are) g)))
       refl f.told f.left
 
-  pub fresh_made : {ys cs zs out out' : List ℕ} {next : ℕ} {said : Starting} → said ≡ starting.Started
+  pub fresh_made : {ys cs zs out out' : List ℕ} {next : ℕ} {said : Result Unit Refusal} {u : Unit} → said ≡ Ok u
       → FreshAs four (mem (take s slots) (take v counters) (take i items)) (mem ys cs zs) (said_starting said) → Put (line (bytes "fresh")) st.at out out' next
       → length ys ≡ length (take s slots) → length cs ≡ length (take v counters) → length zs ≡ length (take i items)
       → Stepped (starts s v i (in_use slots counters items st)) st
@@ -186,10 +186,3 @@ module _ {slots counters items : List ℕ} {st : State} (s v i : ℕ) (k : Held 
       }))
       (λ _ g t l. let z : ◌≡◌ {A = ℕ} 1 0 = ap (λ (a : Answer). length (paper a).values) (sym (ap said_starting e) ∙ t) in absurd (omega arith))
       refl f.told f.left
-
--- the line is a fresh
-pub as_fresh : {slots' counters' items' out out' : List ℕ} {st r : State} {row : ℕ} (n : ℕ) (xs : List ℕ) (w : World) → row ≡ 14
-    → Stepped (starts (get_or xs 0 0) (get_or xs 1 0) (get_or xs 2 0) w) st r slots' counters' items' out out'
-    → Stepped (meaning row n xs w) st r slots' counters' items' out out'
-unfolding meaning
-as_fresh n xs w e s = rw e s

@@ -1,12 +1,16 @@
-// One line of a replay, fresh too, on the runs in use.
+// One line of a replay, fresh too, on the runs in use. The runs, the buffers and the state stay parameters of their own: a struct round a
+// `&mut` would need a clause on its name in every contract.
 #![tactic(auto)]
 
 ghost use Rattle.std.specs.Prelude.{◌≡◌, ◌+◌, ◌≤◌, length};
-ghost use Rattle.replay_rows.specs.Meaning.{meaning, starts};
+ghost use Rattle.replay_rows.specs.Meaning.{starts};
+ghost use Rattle.replay_rows.specs.Rows.{meaning_of};
 ghost use Rattle.replay_rows.specs.World.{longest};
 ghost use Rattle.replay_steps.specs.Standing.{in_use, Held, Stepped, Refused};
 
-use model::Starting;
+use model::Refusal;
+use replay_lines::Reason;
+use replay_rows::Row;
 
 // Where the replay stands: the lengths of the three runs in use and the hand; the lines that are behind it and how many of them were not understood, the position in the text, and in the buffer.
 #[derive(Clone, Copy)]
@@ -26,16 +30,9 @@ fn refuse_fresh(out: &mut [u8], state: State) -> State
     requires { state.at + longest ≤ length out.old }
     ensures { Refused state out.old out.new result }
 {
-    let at = replay_answers::put_refused(out, state.at, 1);
     State {
-        slots: state.slots,
-        counters: state.counters,
-        items: state.items,
-        hand: state.hand,
-        number: state.number,
-        missed: state.missed,
-        from: state.from,
-        at,
+        at: replay_answers::put_refused(out, state.at, Refusal::Lengths),
+        ..state
     }
 }
 
@@ -54,38 +51,27 @@ fn start(
     ensures { Stepped (starts s v i (in_use slots.old counters.old items.old state)) state result
         slots.new counters.new items.new out.old out.new }
 {
-    if slots.len() < s {
+    if slots.len() < s || counters.len() < v || items.len() < i {
         return refuse_fresh(out, state);
     }
-    if counters.len() < v {
-        return refuse_fresh(out, state);
-    }
-    if items.len() < i {
-        return refuse_fresh(out, state);
-    }
-    let said = starting::fresh(&mut slots[..s], &mut counters[..v], &mut items[..i]);
-    match said {
-        Starting::Refused(_) => refuse_fresh(out, state),
-        Starting::Started => {
-            let at = replay_print::put_line(out, state.at, b"fresh");
-            State {
-                slots: s,
-                counters: v,
-                items: i,
-                hand: 0,
-                number: state.number,
-                missed: state.missed,
-                from: state.from,
-                at,
-            }
-        }
+    match starting::fresh(&mut slots[..s], &mut counters[..v], &mut items[..i]) {
+        Err(_) => refuse_fresh(out, state),
+        Ok(()) => State {
+            slots: s,
+            counters: v,
+            items: i,
+            hand: 0,
+            at: replay_print::put_line(out, state.at, b"fresh"),
+            ..state
+        },
     }
 }
 
 // One line, on the runs in use.
+#[tactic(auto, unfolding(replay_rows::specs::Meaning::meaning))]
 pub fn step(
-    row: usize,
-    numbers: &[u64],
+    follows: Result<Row, Reason>,
+    numbers: &[u64; 8],
     slots: &mut [u32],
     counters: &mut [u32],
     items: &mut [u64],
@@ -94,45 +80,31 @@ pub fn step(
     state: State,
 ) -> State
     requires held { Held slots.old counters.old items.old state × (state.at + longest ≤ length out.old) }
-    requires numbers_len { (length numbers.now ≡ 8) × (length records.old ≡ 81920) }
-    ensures { Stepped (meaning row state.number numbers.now (in_use slots.old counters.old items.old state)) state result
+    requires records_len { length records.old ≡ 81920 }
+    ensures { Stepped (meaning_of follows state.number numbers.now (in_use slots.old counters.old items.old state)) state result
         slots.new counters.new items.new out.old out.new }
 {
-    if row == 14 {
+    if follows == Ok(Row::Fresh) {
+        let [s, v, i, ..] = *numbers;
         return start(
-            numbers[0] as usize,
-            numbers[1] as usize,
-            numbers[2] as usize,
-            slots,
-            counters,
-            items,
-            out,
-            state,
+            s as usize, v as usize, i as usize, slots, counters, items, out, state,
         );
     }
-    let s = state.slots;
-    let v = state.counters;
-    let i = state.items;
     let turn = replay_turns::on_table(
-        row,
+        follows,
         state.number,
         numbers,
-        &mut slots[..s],
-        &mut counters[..v],
-        &mut items[..i],
+        &mut slots[..state.slots],
+        &mut counters[..state.counters],
+        &mut items[..state.items],
         records,
         out,
         state.at,
         state.hand,
     );
     State {
-        slots: s,
-        counters: v,
-        items: i,
         hand: turn.hand,
-        number: state.number,
-        missed: state.missed,
-        from: state.from,
         at: turn.next,
+        ..state
     }
 }
