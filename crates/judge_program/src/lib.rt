@@ -1,63 +1,81 @@
-// The judge program: a dump is loaded line by line, and judged.
+// The judge program: a dump is loaded line by line, and judged. The runs that are stored to stay parameters of their own: a struct round a
+// `&mut` would need a clause on the name of each in every contract.
 #![tactic(auto)]
 
-ghost use Rattle.std.specs.Prelude.{◌≡◌, ◌+◌, ◌≤◌, length};
+ghost use Rattle.std.specs.Prelude.{◌≡◌, ℕ, ◌+◌, ◌≤◌, length, Ok};
 ghost use Rattle.buffer.specs.Put.{Put};
 ghost use Rattle.replay_loads.specs.Load.{loading};
-ghost use Rattle.replay_loads.specs.Cursor.{measured as measured_line};
+ghost use Rattle.replay_loads.specs.Cursor.{Measures};
 ghost use Rattle.replay_loads.specs.declared.Measured.TheVariants as measures;
 ghost use Rattle.judge_program.specs.Dump.{dump_of, is_blank, told};
-ghost use Rattle.judge_program.specs.Standing.{Judged, Stands, Taken, Told};
-ghost use Rattle.judge_program.specs.declared.Dumped.TheVariants as dumped;
+ghost use Rattle.judge_program.specs.Standing.{Judged, Lent, Stands, Taken, Told};
 
-use judgement::{Breach, Judgement};
-use replay_loads::Measured;
-use replay_words::{Piece, Word};
+use judgement::{Broken, Condition};
+use model::Table;
+use replay_lines::Reason;
+use replay_loads::{Measured, Run};
+use replay_words::{Lines, Words};
 use std::io::Read;
 
-// The lengths of the slots, the counters and the items; or the first line that is not understood, and why.
-#[derive(Drop)]
-pub enum Dumped {
-    Whole(usize, usize, usize),
-    Unclear(u64, u64),
+// How many words the slots, the counters and the items of a dump have.
+#[derive(Clone, Copy, Debug, PartialEq, Eq)]
+pub struct Lengths {
+    pub slots: usize,
+    pub counters: usize,
+    pub items: usize,
+}
+
+// The first line that is not understood, and why.
+#[derive(Clone, Copy, Debug, PartialEq, Eq)]
+pub struct Unclear {
+    pub line: u64,
+    pub why: Reason,
 }
 
 // A line that is blank or a comment says nothing.
 fn is_blank(line: &[u8]) -> bool
     ensures { result ≡ is_blank line.now }
 {
-    let n = replay_lines::body_length(line);
-    let Word { start, end } = replay_words::next_word(&line[..n], 0);
-    start == end
+    Words(replay_lines::body_of(line)).next().is_none()
 }
 
 // The words of a line into its run. Of a run longer than what is lent for it the rest is dropped, and its whole length is told.
 fn load(
     line: &[u8],
-    number: u64,
-    run: usize,
+    run: Run,
     count: usize,
     slots: &mut [u32],
     counters: &mut [u32],
     items: &mut [u64],
-    s: usize,
-    v: usize,
-    i: usize,
-) -> Dumped
-    requires { measures.Loads run count ≡ measured_line (loading line.now) }
-    ensures { Taken number line.now slots.old counters.old items.old (dumped.Whole s v i)
-        slots.new counters.new items.new result }
+    known: Lengths,
+) -> Lengths
+    requires { Measures (loading line.now) (measures.Loads run count) }
+    ensures { (number : ℕ) → Taken number line.now slots.old counters.old items.old known
+        slots.new counters.new items.new (Ok result) }
 {
-    if run == 0 {
-        replay_loads::pour32(line, slots);
-        return Dumped::Whole(count, v, i);
+    match run {
+        Run::Slots => {
+            replay_loads::pour(line, slots);
+            Lengths {
+                slots: count,
+                ..known
+            }
+        }
+        Run::Counters => {
+            replay_loads::pour(line, counters);
+            Lengths {
+                counters: count,
+                ..known
+            }
+        }
+        Run::Items => {
+            replay_loads::pour(line, items);
+            Lengths {
+                items: count,
+                ..known
+            }
+        }
     }
-    if run == 1 {
-        replay_loads::pour32(line, counters);
-        return Dumped::Whole(s, count, i);
-    }
-    replay_loads::pour64(line, items);
-    Dumped::Whole(s, v, count)
 }
 
 // A line of a dump behind lines that were all understood.
@@ -67,91 +85,74 @@ fn add_line(
     slots: &mut [u32],
     counters: &mut [u32],
     items: &mut [u64],
-    s: usize,
-    v: usize,
-    i: usize,
-) -> Dumped
-    ensures { Taken number line.now slots.old counters.old items.old (dumped.Whole s v i)
-        slots.new counters.new items.new result }
-{
-    match replay_loads::measure(line) {
-        Measured::Other => {
-            if is_blank(line) {
-                return Dumped::Whole(s, v, i);
-            }
-            Dumped::Unclear(number, 0)
-        }
-        Measured::Faulty(why) => Dumped::Unclear(number, why),
-        Measured::Loads(run, count) => {
-            load(line, number, run, count, slots, counters, items, s, v, i)
-        }
-    }
-}
-
-// The next line; none counts behind one that is not understood.
-fn take_line(
-    line: &[u8],
-    number: u64,
-    slots: &mut [u32],
-    counters: &mut [u32],
-    items: &mut [u64],
-    known: Dumped,
-) -> Dumped
+    known: Lengths,
+) -> Result<Lengths, Unclear>
     ensures { Taken number line.now slots.old counters.old items.old known
         slots.new counters.new items.new result }
 {
-    match known {
-        Dumped::Whole(s, v, i) => add_line(line, number, slots, counters, items, s, v, i),
-        Dumped::Unclear(n, why) => Dumped::Unclear(n, why),
-    }
+    let why = match replay_loads::measure(line) {
+        Measured::Loads(run, count) => {
+            return Ok(load(line, run, count, slots, counters, items, known));
+        }
+        Measured::Other if is_blank(line) => return Ok(known),
+        Measured::Other => Reason::UnknownWord,
+        Measured::Faulty(why) => why,
+    };
+    Err(Unclear { line: number, why })
 }
 
-// The text of a dump, line after line.
-pub fn read_dump(text: &[u8], slots: &mut [u32], counters: &mut [u32], items: &mut [u64]) -> Dumped
+// The text of a dump, line after line; none counts behind one that is not understood.
+pub fn read_dump(
+    text: &[u8],
+    slots: &mut [u32],
+    counters: &mut [u32],
+    items: &mut [u64],
+) -> Result<Lengths, Unclear>
     ensures { Stands (dump_of text.now) slots.new counters.new items.new result }
 {
-    let mut known = Dumped::Whole(0, 0, 0);
-    let mut number: u64 = 0;
-    let mut from = replay_words::mark_length(text);
-    while from < text.len() {
-        let Piece { end, next } = replay_words::piece_at(text, from);
-        number += 1;
-        known = take_line(&text[from..end], number, slots, counters, items, known);
-        from = next;
+    let mut known = Lengths {
+        slots: 0,
+        counters: 0,
+        items: 0,
+    };
+    let lines = Lines(&text[replay_words::mark_length(text)..]);
+    for (i, line) in lines.enumerate() {
+        known = add_line(line, i as u64 + 1, slots, counters, items, known)?;
     }
-    known
+    Ok(known)
 }
 
 // The verdict. A length that is wrong is told before a word is read, so that a run longer than what is lent for it is never cut.
-fn verdict_of(
-    s: usize,
-    v: usize,
-    i: usize,
-    slots: &[u32],
-    counters: &[u32],
-    items: &[u64],
-) -> Judgement
-    requires { (length slots.now ≡ 8192) × (length counters.now ≡ 1024) × (length items.now ≡ 16384) }
-    ensures { Judged slots.now counters.now items.now s v i result }
+fn verdict_of(known: Lengths, lent: &Table) -> Result<(), Broken>
+    requires { Lent lent.now.slots.now lent.now.counters.now lent.now.items.now }
+    ensures { Judged lent.now.slots.now lent.now.counters.now lent.now.items.now known result }
 {
-    let shape = inspecting::misshapen_run(s, v, i);
-    if let Breach::At(at) = shape {
-        return Judgement::Broken { condition: 1, at };
+    let Lengths {
+        slots,
+        counters,
+        items,
+    } = known;
+    if let Some(at) = inspecting::misshapen_run(slots, counters, items) {
+        return Err(Broken {
+            condition: Condition::Lengths,
+            at,
+        });
     }
-    judging::judge(&slots[..s], &counters[..v], &items[..i])
+    judging::judge(&Table {
+        slots: &lent.slots[..slots],
+        counters: &lent.counters[..counters],
+        items: &lent.items[..items],
+    })
 }
 
 // The line that is told of a dump.
-fn put_told(dumped: Dumped, slots: &[u32], counters: &[u32], items: &[u64], out: &mut [u8]) -> usize
-    requires { (length slots.now ≡ 8192) × (length counters.now ≡ 1024) × (length items.now ≡ 16384) × (384 ≤ length out.old) }
-    ensures { Told slots.now counters.now items.now dumped out.old out.new result }
+fn put_told(dumped: Result<Lengths, Unclear>, lent: &Table, out: &mut [u8]) -> usize
+    requires { Lent lent.now.slots.now lent.now.counters.now lent.now.items.now × (384 ≤ length out.old) }
+    ensures { Told lent.now.slots.now lent.now.counters.now lent.now.items.now dumped out.old out.new result }
 {
     match dumped {
-        Dumped::Whole(s, v, i) => {
-            let verdict = verdict_of(s, v, i, slots, counters, items);
-            replay_answers::put_judgement(out, 0, verdict)
-        }
-        Dumped::Unclear(n, why) => replay_answers::put_not_understood(out, 0, n, why),
+        Ok(known) => replay_answers::put_judgement(out, 0, verdict_of(known, lent)),
+        Err(Unclear { line, why }) => replay_answers::put_not_understood(out, 0, line, why),
     }
 }
 
@@ -163,11 +164,16 @@ pub fn judge_text(
     items: &mut [u64],
     out: &mut [u8],
 ) -> usize
-    requires { (length slots.old ≡ 8192) × (length counters.old ≡ 1024) × (length items.old ≡ 16384) × (384 ≤ length out.old) }
+    requires { Lent slots.old counters.old items.old × (384 ≤ length out.old) }
     ensures { Put (told (dump_of text.now)) 0 out.old out.new result × (result ≤ 384) }
 {
     let dumped = read_dump(text, slots, counters, items);
-    put_told(dumped, slots, counters, items, out)
+    let lent = Table {
+        slots,
+        counters,
+        items,
+    };
+    put_told(dumped, &lent, out)
 }
 
 // The line goes out. That it can't be written is not told.
@@ -186,7 +192,7 @@ fn tell_in<R: Print>(
     items: &mut [u64],
     out: &mut [u8],
 )
-    requires { (length slots.old ≡ 8192) × (length counters.old ≡ 1024) × (length items.old ≡ 16384) × (384 ≤ length out.old) }
+    requires { Lent slots.old counters.old items.old × (384 ≤ length out.old) }
 {
     let end = judge_text(text, slots, counters, items, out);
     hand_over(rt, &out[..end], text);
@@ -214,17 +220,20 @@ pub fn run(rt: &HostRuntime, text: &mut [u8]) -> u8
     let mut from = rt.stdin();
     let n = input::fill(&mut from, text).bytes;
     let mut more = [0u8; 1];
-    let got = from.read(&mut more);
-    if let Ok(0) = got {
-        tell(rt, &text[..n]);
-        return 0;
+    match from.read(&mut more) {
+        Ok(0) => {
+            tell(rt, &text[..n]);
+            0
+        }
+        Ok(_) if n == text.len() => {
+            let _ = rt.write_all(b"too long\n");
+            1
+        }
+        _ => {
+            let _ = rt
+                .stderr()
+                .write_all(b"judge_dump: a read failed, nothing was judged\n");
+            1
+        }
     }
-    if got.is_err() || n < text.len() {
-        let _ = rt
-            .stderr()
-            .write_all(b"judge_dump: a read failed, nothing was judged\n");
-        return 1;
-    }
-    let _ = rt.write_all(b"too long\n");
-    1
 }

@@ -6,7 +6,7 @@ use mathlib.Core.Path.{◌≡◌, refl, sym, ap, ◌∙◌}
 use mathlib.Core.Bool.{Bool}
 use mathlib.Core.List.{List, [], ◌++◌, append_assoc, append-nil}
 use lib.ListN.{length, take, drop, drop_of_length-le, length-append}
-use lib.Seq.{take_at, drop_at, length-take-le}
+use lib.Seq.{length-take-le}
 use Rattle.replay_words.specs.Words.{lines, mark_length, without_mark}
 use Rattle.replay_rows.specs.World.{longest_line}
 use Rattle.replay_rows.specs.Replayed.{answers, missed, missed_in, replayed}
@@ -57,18 +57,6 @@ module _ {e : Bool} {calls slots counters items records out slots' counters' ite
       append_assoc h.gone (take full.at out') (coming e calls slots' counters' items' full)
       ∙ ap (λ (l : List ℕ). h.gone ++ l) (w.answered ∙ ap (λ (k : ℕ). take k out ++ coming e calls slots counters items st) h.empty)
       ∙ h.ahead
-
-  next_bytes : take full.at out' ≡ take (length (take full.at out')) (drop written (answers e calls))
-  next_bytes =
-      let rest : drop written (answers e calls) ≡ take full.at out' ++ coming e calls slots' counters' items' full =
-      ap (drop written) (sym split ∙ append_assoc h.gone (take full.at out') (coming e calls slots' counters' items' full))
-      ∙ drop_at h.gone (take full.at out' ++ coming e calls slots' counters' items' full) written (sym h.count) in
-      sym
-      (ap (take (length (take full.at out'))) rest
-      ∙ take_at (take full.at out') (coming e calls slots' counters' items' full) (length (take full.at out')) refl)
-
-  next_few : length calls ≤ 2097152 → written + length (take full.at out') ≤ 618475290624
-  next_few l = omega (arith, length-take-le full.at out' w.fits, w.few, h.few, h.empty, w.counted, w.inside)
 
   -- it is handed over, and the next begins
   pub handed_more : {r : ℕ} {records' : List ℕ} → length records' ≡ length records → r ≡ written + length (take full.at out')

@@ -1,9 +1,9 @@
-// Replays the lines of a text, one after the other, and hands over their answers in portions.
+// Replays the lines of a text, one after the other, and hands over their answers in portions. The runs and the buffers stay parameters of
+// their own: a struct round a `&mut` would need a clause on the name of each in every contract.
 #![tactic(auto)]
 
 ghost use Rattle.std.specs.Prelude.{◌≡◌, ◌+◌, ◌<◌, ◌≤◌, length, IfOk};
 ghost use Rattle.replay_rows.specs.World.{longest_line};
-ghost use Rattle.replay_rows.specs.Replayed.{language};
 ghost use Rattle.replay_steps.specs.Standing.{Held};
 ghost use Rattle.replay_loop.specs.Going.{Ended, Next, Went};
 
@@ -13,7 +13,6 @@ use std::io;
 
 // The next line of the text.
 fn next_line(
-    rows: &[u8],
     calls: &[u8],
     echo: bool,
     slots: &mut [u32],
@@ -23,7 +22,7 @@ fn next_line(
     out: &mut [u8],
     state: State,
 ) -> State
-    requires rows_value { (rows.now ≡ language) × Held slots.old counters.old items.old state × (state.at + longest_line ≤ length out.old) }
+    requires held { Held slots.old counters.old items.old state × (state.at + longest_line ≤ length out.old) }
     requires from_in_bounds { (state.from < length calls.now) × (state.number ≤ state.from) × (state.missed ≤ state.number) × (length records.old ≡ 81920) }
     ensures went { Went echo calls.now slots.old counters.old items.old out.old state
         slots.new counters.new items.new out.new result }
@@ -35,14 +34,11 @@ fn next_line(
         from: next,
         ..state
     };
-    replay_reply::reply(
-        rows, line, echo, slots, counters, items, records, out, behind,
-    )
+    replay_reply::reply(line, echo, slots, counters, items, records, out, behind)
 }
 
 // Lines until the buffer may not hold the next answer, or the text ends: at least one.
 fn portion(
-    rows: &[u8],
     calls: &[u8],
     echo: bool,
     slots: &mut [u32],
@@ -52,7 +48,7 @@ fn portion(
     out: &mut [u8],
     start: State,
 ) -> State
-    requires rows_value { (rows.now ≡ language) × Held slots.old counters.old items.old start × (start.at ≡ 0) × (longest_line ≤ length out.old) }
+    requires held { Held slots.old counters.old items.old start × (start.at ≡ 0) × (longest_line ≤ length out.old) }
     requires from_in_bounds { (start.from < length calls.now) × (start.number ≤ start.from) × (start.missed ≤ start.number) × (length records.old ≡ 81920) }
     ensures went { Went echo calls.now slots.old counters.old items.old out.old start
         slots.new counters.new items.new out.new result }
@@ -63,9 +59,7 @@ fn portion(
         if out.len() - state.at < 294912 {
             return state;
         }
-        state = next_line(
-            rows, calls, echo, slots, counters, items, records, out, state,
-        );
+        state = next_line(calls, echo, slots, counters, items, records, out, state);
     }
     state
 }
@@ -95,7 +89,6 @@ pub struct Replayed {
 // All portions of a text's answers. A text may begin with a byte order mark.
 fn portions<R: Print>(
     rt: &R,
-    rows: &[u8],
     calls: &[u8],
     echo: bool,
     slots: &mut [u32],
@@ -104,7 +97,7 @@ fn portions<R: Print>(
     records: &mut [u8],
     out: &mut [u8],
 ) -> io::Result<Replayed>
-    requires rows_value { (rows.now ≡ language) × (length slots.old ≡ 8192) × (length counters.old ≡ 1024) × (length items.old ≡ 4096) }
+    requires runs { (length slots.old ≡ 8192) × (length counters.old ≡ 1024) × (length items.old ≡ 4096) }
     requires records_len { (length records.old ≡ 81920) × (longest_line ≤ length out.old) × (length calls.now ≤ 2097152) }
     ensures { Ended echo calls.now result }
 {
@@ -120,9 +113,7 @@ fn portions<R: Print>(
     };
     let mut written: u64 = 0;
     while state.from < calls.len() {
-        let full = portion(
-            rows, calls, echo, slots, counters, items, records, out, state,
-        );
+        let full = portion(calls, echo, slots, counters, items, records, out, state);
         written = hand_over(rt, &out[..full.at], calls, echo, written)?;
         state = State { at: 0, ..full };
     }
@@ -146,7 +137,7 @@ fn portion_bytes() -> [u8; 299008]
     [0; 299008]
 }
 
-// Replays a text on a table of the program's own, with the calls shown before their answers or not. The rows are those of the language, in its order.
+// Replays a text on a table of the program's own, with the calls shown before their answers or not.
 pub fn replay<R: Print>(rt: &R, calls: &[u8], echo: bool) -> io::Result<Replayed>
     requires { length calls.now ≤ 2097152 }
     ensures { Ended echo calls.now result }
@@ -158,7 +149,6 @@ pub fn replay<R: Print>(rt: &R, calls: &[u8], echo: bool) -> io::Result<Replayed
     let mut out = portion_bytes();
     portions(
         rt,
-        b"serve N N N\nread N N N\nset N P N N\ndelete N\nevict\ncut N set N P N N\ncut N delete N\ncut N evict\nhand N\nlist B\npoke slots N N\npoke counters N N\npoke items N N\ndump\nfresh N N N\nplain N N N\njudge\nplan N P N N\nmove N N N N P N N\nenter N N N P N N\n\n",
         calls,
         echo,
         &mut slots,

@@ -1,24 +1,33 @@
-// One line of a text and its reply: a call, or a run of a dump.
+// One line of a text and its reply: a call, or a run of a dump. The runs and the buffer stay parameters of their own: a struct round a `&mut`
+// would need a clause on the name of each in every contract. That lines are behind the position and missed ones among them is asked of each
+// state that is built by `..state`, which no struct with a ghost field may be.
 #![tactic(auto)]
 
 ghost use Rattle.std.specs.Prelude.{◌≡◌, ◌+◌, ◌<◌, ◌≤◌, length, get_or};
-ghost use Rattle.replay_loads.specs.Load.{loading};
-ghost use Rattle.replay_loads.specs.Cursor.{measured};
+ghost use Rattle.replay_lines.specs.Reasons.{reason_number};
+ghost use Rattle.replay_loads.specs.Load.{loading, run_number};
+ghost use Rattle.replay_loads.specs.Cursor.{Measures};
 ghost use Rattle.replay_loads.specs.declared.Measured.TheVariants as measures;
 ghost use Rattle.replay_rows.specs.World.{longest_line};
 ghost use Rattle.replay_rows.specs.Loaded.{room_of as room};
-ghost use Rattle.replay_rows.specs.Replayed.{follows, language, numbers_of, reply_by, reply_to, unheard_by, unheard_line};
+ghost use Rattle.replay_rows.specs.Replayed.{follows, numbers_of, reply_by, reply_to, unheard_by, unheard_line};
 ghost use Rattle.replay_steps.specs.Standing.{in_use, Held};
 ghost use Rattle.replay_reply.specs.Answered.{Answers, Behind, Replaced};
 
-use replay_loads::Measured;
+use model::Refusal;
+use replay_lines::Reason;
+use replay_loads::{Measured, Run};
+use replay_rows::Row;
 use replay_steps::State;
 
-// The call of a line, by the row that it follows.
+// The rows of the language, in its order.
+const LANGUAGE: &[u8] =
+    b"serve N N N\nread N N N\nset N P N N\ndelete N\nevict\ncut N set N P N N\ncut N delete N\ncut N evict\nhand N\nlist B\npoke slots N N\npoke counters N N\npoke items N N\ndump\nfresh N N N\nplain N N N\njudge\nplan N P N N\nmove N N N N P N N\nenter N N N P N N\n\n";
+
+// The call of a line, by the number of the row that it follows.
 fn make_call(
-    rows: &[u8],
     row: usize,
-    numbers: &[u64],
+    numbers: &[u64; 8],
     echo: bool,
     slots: &mut [u32],
     counters: &mut [u32],
@@ -27,24 +36,29 @@ fn make_call(
     out: &mut [u8],
     state: State,
 ) -> State
-    requires rows_value { (rows.now ≡ language) × Held slots.old counters.old items.old state × (state.at + longest_line ≤ length out.old) }
-    requires number_lt_from { (state.number < state.from) × (state.missed ≤ state.number) × (length records.old ≡ 81920) × (length numbers.now ≡ 8) }
+    requires held { Held slots.old counters.old items.old state × (state.at + longest_line ≤ length out.old) }
+    requires number_lt_from { (state.number < state.from) × (state.missed ≤ state.number) × (length records.old ≡ 81920) × (row < 21) }
     ensures { Answers (follows echo (state.number + 1) row numbers.now (in_use slots.old counters.old items.old state))
         0 state result slots.new counters.new items.new out.old out.new }
 {
     let number = state.number + 1;
-    let at = replay_rows::show_call(rows, echo, row, numbers, number, out, state.at);
+    let at = replay_rows::show_call(LANGUAGE, echo, row, numbers, number, out, state.at);
     let here = State {
-        slots: state.slots,
-        counters: state.counters,
-        items: state.items,
-        hand: state.hand,
         number,
-        missed: state.missed,
-        from: state.from,
         at,
+        ..state
     };
-    replay_steps::step(row, numbers, slots, counters, items, records, out, here)
+    let named = Row::try_from(row).unwrap();
+    replay_steps::step(
+        Ok(named),
+        numbers,
+        slots,
+        counters,
+        items,
+        records,
+        out,
+        here,
+    )
 }
 
 // A line more, and the buffer filled up to a position.
@@ -53,62 +67,67 @@ fn behind(state: State, at: usize, missed: u64) -> State
     ensures { Behind state at missed result }
 {
     State {
-        slots: state.slots,
-        counters: state.counters,
-        items: state.items,
-        hand: state.hand,
         number: state.number + 1,
         missed: state.missed + missed,
-        from: state.from,
         at,
+        ..state
     }
 }
 
 // How many words the program holds of a run.
-fn room_of(run: usize) -> usize
-    ensures { result ≡ room run }
+fn room_of(run: Run) -> usize
+    ensures { result ≡ room (run_number run) }
 {
     match run {
-        0 => 8192,
-        1 => 1024,
-        _ => 4096,
+        Run::Slots => 8192,
+        Run::Counters => 1024,
+        Run::Items => 4096,
     }
 }
 
 // The words of a line into its run, which has as many words from then on.
 fn replace(
     line: &[u8],
-    run: usize,
+    run: Run,
     count: usize,
     slots: &mut [u32],
     counters: &mut [u32],
     items: &mut [u64],
     state: State,
 ) -> State
-    requires { (measures.Loads run count ≡ measured (loading line.now)) × (count ≤ room run) × Held slots.old counters.old items.old state }
-    ensures { Replaced line.now run slots.old counters.old items.old state result
+    requires { Measures (loading line.now) (measures.Loads run count) × (count ≤ room (run_number run)) × Held slots.old counters.old items.old state }
+    ensures { Replaced line.now (run_number run) slots.old counters.old items.old state result
         slots.new counters.new items.new }
 {
-    let mut here = state;
-    if run == 0 {
-        replay_loads::pour32(line, slots);
-        here.slots = count;
-        return here;
+    match run {
+        Run::Slots => {
+            replay_loads::pour(line, slots);
+            State {
+                slots: count,
+                ..state
+            }
+        }
+        Run::Counters => {
+            replay_loads::pour(line, counters);
+            State {
+                counters: count,
+                ..state
+            }
+        }
+        Run::Items => {
+            replay_loads::pour(line, items);
+            State {
+                items: count,
+                ..state
+            }
+        }
     }
-    if run == 1 {
-        replay_loads::pour32(line, counters);
-        here.counters = count;
-        return here;
-    }
-    replay_loads::pour64(line, items);
-    here.items = count;
-    here
 }
 
 // A line of a dump: its run is replaced, if the program holds as many words.
 fn load(
     line: &[u8],
-    run: usize,
+    run: Run,
     count: usize,
     echo: bool,
     slots: &mut [u32],
@@ -117,14 +136,14 @@ fn load(
     out: &mut [u8],
     state: State,
 ) -> State
-    requires count_value { (measures.Loads run count ≡ measured (loading line.now)) × Held slots.old counters.old items.old state × (state.at + longest_line ≤ length out.old) }
+    requires count_value { Measures (loading line.now) (measures.Loads run count) × Held slots.old counters.old items.old state × (state.at + longest_line ≤ length out.old) }
     requires number_lt_from { (state.number < state.from) × (state.missed ≤ state.number) }
     ensures { Answers (reply_by (loading line.now) echo (state.number + 1) (in_use slots.old counters.old items.old state) line.now)
         (unheard_by (loading line.now)) state result slots.new counters.new items.new out.old out.new }
 {
     let at = replay_rows::show_load(echo, run, state.number + 1, out, state.at);
     if room_of(run) < count {
-        let end = replay_answers::put_refused(out, at, 1);
+        let end = replay_answers::put_refused(out, at, Refusal::Lengths);
         return behind(state, end, 0);
     }
     let end = replay_print::put_line(out, at, b"loaded");
@@ -132,10 +151,11 @@ fn load(
     replace(line, run, count, slots, counters, items, here)
 }
 
-// A line that follows no row: one of a dump, or one that is not understood, and why.
+// A line that follows no row: one of a dump, or one that is not understood, and why. It stays a call, so that the loop that nearly all lines take stays small.
+#[inline(never)]
 fn beside_the_rows(
     line: &[u8],
-    why: u64,
+    why: Reason,
     echo: bool,
     slots: &mut [u32],
     counters: &mut [u32],
@@ -144,7 +164,7 @@ fn beside_the_rows(
     state: State,
 ) -> State
     requires held { Held slots.old counters.old items.old state × (state.at + longest_line ≤ length out.old) }
-    requires number_lt_from { (state.number < state.from) × (state.missed ≤ state.number) × (why ≡ get_or (numbers_of line.now) 0 0) }
+    requires number_lt_from { (state.number < state.from) × (state.missed ≤ state.number) × (reason_number why ≡ get_or (numbers_of line.now) 0 0) }
     ensures { Answers (reply_by (loading line.now) echo (state.number + 1) (in_use slots.old counters.old items.old state) line.now)
         (unheard_by (loading line.now)) state result slots.new counters.new items.new out.old out.new }
 {
@@ -165,7 +185,6 @@ fn beside_the_rows(
 
 // The next line, given without its LF, and the position behind it already in the state. The rows come first: most lines are calls.
 pub fn reply(
-    rows: &[u8],
     line: &[u8],
     echo: bool,
     slots: &mut [u32],
@@ -175,21 +194,16 @@ pub fn reply(
     out: &mut [u8],
     state: State,
 ) -> State
-    requires rows_value { (rows.now ≡ language) × Held slots.old counters.old items.old state × (state.at + longest_line ≤ length out.old) }
+    requires held { Held slots.old counters.old items.old state × (state.at + longest_line ≤ length out.old) }
     requires number_lt_from { (state.number < state.from) × (state.missed ≤ state.number) × (length records.old ≡ 81920) }
     ensures { Answers (reply_to echo (state.number + 1) (in_use slots.old counters.old items.old state) line.now)
         (unheard_line line.now) state result slots.new counters.new items.new out.old out.new }
 {
     let mut numbers = [0u64; 8];
-    let row = replay_lines::row_of(rows, line, &mut numbers);
-    if row < 21 {
-        return make_call(
-            rows, row, &numbers, echo, slots, counters, items, records, out, state,
-        );
+    match replay_lines::row_of(LANGUAGE, line, &mut numbers) {
+        Ok(row) => make_call(
+            row, &numbers, echo, slots, counters, items, records, out, state,
+        ),
+        Err(why) => beside_the_rows(line, why, echo, slots, counters, items, out, state),
     }
-    // Called from two places it stays a call, and the loop that nearly all lines take stays small.
-    if numbers[0] != 0 {
-        return beside_the_rows(line, numbers[0], echo, slots, counters, items, out, state);
-    }
-    beside_the_rows(line, numbers[0], echo, slots, counters, items, out, state)
 }

@@ -1,11 +1,11 @@
 use Rattle.judge_program.proofs.Dumps.{loaded_slots, loaded_counters, loaded_items}
 use Rattle.judge_program.proofs.load.Goals as goal
 
-pub returns-then-run-eq0 : goal.returns-then-run-eq0
-returns-then-run-eq0 c = search loaded_slots
+pub returns-in-Slots : goal.returns-in-Slots
+returns-in-Slots c = λ number. loaded_slots number _ (rw c.in-Slots.is at c.requires) c.pour.ensures
 
-pub returns-then-run-eq1 : goal.returns-then-run-eq1
-returns-then-run-eq1 c = search loaded_counters
+pub returns-in-Counters : goal.returns-in-Counters
+returns-in-Counters c = λ number. loaded_counters number _ (rw c.in-Counters.is at c.requires) c.pour-in-Counters.ensures
 
-pub returns : goal.returns
-returns c = search loaded_items
+pub returns-in-Items : goal.returns-in-Items
+returns-in-Items c = λ number. loaded_items number _ (rw c.in-Items.is at c.requires) c.pour-in-Items.ensures

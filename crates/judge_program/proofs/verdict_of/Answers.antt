@@ -1,8 +1,8 @@
 use Rattle.judge_program.proofs.Verdicts.{slots_front, counters_front, items_front, wrong_length, judged_fronts}
 use Rattle.judge_program.proofs.verdict_of.Goals as goal
 
-pub returns-in-At : goal.returns-in-At
-returns-in-At c = search wrong_length
+pub returns-in-Some : goal.returns-in-Some
+returns-in-Some c = search wrong_length
 
 pub slice_bounds-judge-end : goal.slice_bounds-judge-end
 slice_bounds-judge-end c = search slots_front

@@ -1,11 +1,6 @@
 -- `replay_reply::beside_the_rows` meets its contract. Assumes nothing.
-use Rattle.replay_loads.proofs.Loads.{told_load}
 use Rattle.replay_reply.proofs.Replies.{as_other, as_faulty}
-use borrow.Author.Rules.{rules}
 use Rattle.replay_reply.proofs.beside_the_rows.Goals as goal
-
-pub load-requires : goal.load-requires
-load-requires c = search (told_load, rules)
 
 pub returns-in-Other : goal.returns-in-Other
 returns-in-Other c = search as_other

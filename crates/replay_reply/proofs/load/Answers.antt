@@ -4,7 +4,9 @@ use borrow.Author.Rules.{rules}
 use Rattle.replay_reply.proofs.load.Goals as goal
 
 pub returns-then-room_of-count : goal.returns-then-room_of-count
-returns-then-room_of-count c = search load_refused
+returns-then-room_of-count c =
+    let loaded = c.requires.count_value.0 in
+    search (load_refused, loaded.1, loaded.2)
 
 pub replace-requires : goal.replace-requires
 replace-requires c =
@@ -14,9 +16,9 @@ replace-requires c =
 
 pub returns : goal.returns
 returns c =
-    let asked = c.requires in
+    let loaded = c.requires.count_value.0 in
     let shown = c.show_load-at.ensures in
     let room = c.room_of.ensures in
     let put = c.put_line-end.ensures in
     let behind = c.behind-here.ensures in
-    search (load_made, asked.count_value, shown, room, put, behind)
+    search (load_made, loaded.1, loaded.2, shown, room, put, behind)

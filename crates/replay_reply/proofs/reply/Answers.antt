@@ -1,43 +1,24 @@
 -- `replay_reply::reply` meets its contract. Assumes nothing.
-use Prim.Native.Nat.{ℕ}
-use mathlib.Core.Path.{refl, ap}
-use mathlib.Core.List.{List}
-use lib.ListN.{get_or}
-use Rattle.replay_reply.proofs.Replies.{as_heard, as_beside, numbers_are, row_is}
+use Prim.Native.Nat.{◌<◌}
+use Rattle.std.proofs.Common.{arith, length}
+use Rattle.replay_words.specs.Words.{lines}
+use Rattle.replay_rows.specs.Replayed.{language}
+use Rattle.replay_reply.proofs.Replies.{as_heard, as_beside, reason_is, rows_counted}
 use Rattle.replay_reply.proofs.reply.Goals as goal
 
-pub returns-then-row-lt21 : goal.returns-then-row-lt21
-returns-then-row-lt21 c =
+pub make_call-requires : goal.make_call-requires
+make_call-requires c =
     let asked = c.requires in
-    let row = c.row_of-row.ensures in
-    search (as_heard, row_is _ asked.rows_value.0 row.0, numbers_are _ asked.rows_value.0 refl row.1)
+    let few : c.in-Ok.row < length (lines language) = c.in-Ok.ensures.0 in
+    record { held = asked.held; number_lt_from = (asked.number_lt_from.0, asked.number_lt_from.1, asked.number_lt_from.2, omega (arith, few, rows_counted)) }
+
+pub returns-in-Ok : goal.returns-in-Ok
+returns-in-Ok c = as_heard _ _ _ c.args.line.now c.in-Ok.ensures.0 c.in-Ok.ensures.1 c.in-Ok.ensures.2 c.make_call.ensures
 
 pub beside_the_rows-requires : goal.beside_the_rows-requires
 beside_the_rows-requires c =
     let asked = c.requires in
-    let row = c.row_of-row.ensures in
-    record {
-      held = (asked.rows_value.1, asked.rows_value.2);
-      number_lt_from = (asked.number_lt_from.0, asked.number_lt_from.1, ap (λ (l : List ℕ). get_or l 0 0) (numbers_are _ asked.rows_value.0 refl row.1));
-    }
+    record { held = asked.held; number_lt_from = (asked.number_lt_from.0, asked.number_lt_from.1, reason_is c.args.line.now _ c.in-Err.ensures.0) }
 
-pub returns-then-numbers-ne0 : goal.returns-then-numbers-ne0
-returns-then-numbers-ne0 c =
-    let asked = c.requires in
-    let row = c.row_of-row.ensures in
-    search (as_beside, row_is _ asked.rows_value.0 row.0)
-
-pub beside_the_rows-requires-2 : goal.beside_the_rows-requires-2
-beside_the_rows-requires-2 c =
-    let asked = c.requires in
-    let row = c.row_of-row.ensures in
-    record {
-      held = (asked.rows_value.1, asked.rows_value.2);
-      number_lt_from = (asked.number_lt_from.0, asked.number_lt_from.1, ap (λ (l : List ℕ). get_or l 0 0) (numbers_are _ asked.rows_value.0 refl row.1));
-    }
-
-pub returns : goal.returns
-returns c =
-    let asked = c.requires in
-    let row = c.row_of-row.ensures in
-    search (as_beside, row_is _ asked.rows_value.0 row.0)
+pub returns-in-Err : goal.returns-in-Err
+returns-in-Err c = as_beside _ _ _ c.args.line.now _ c.in-Err.ensures.0 c.beside_the_rows.ensures
