@@ -55,6 +55,7 @@ fn portion(
     ensures from_lt_from { (start.from < result.from) × (result.at ≤ length out.old) }
 {
     let mut state = start;
+    // No `for`: the position in the text goes along in the State, from portion to portion.
     while state.from < calls.len() {
         if out.len() - state.at < 294912 {
             return state;
@@ -112,6 +113,7 @@ fn portions<R: Print>(
         at: 0,
     };
     let mut written: u64 = 0;
+    // No `for`: a portion is as many lines as the buffer holds.
     while state.from < calls.len() {
         let full = portion(calls, echo, slots, counters, items, records, out, state);
         written = hand_over(rt, &out[..full.at], calls, echo, written)?;
