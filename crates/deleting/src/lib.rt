@@ -1,4 +1,5 @@
 // Delete, whole and cut: what it is to do is known before any store, and then done.
+// Runs that are stored to are passed one by one: see model::Table.
 #![tactic(auto)]
 
 ghost use Rattle.std.specs.Prelude.{◌≡◌};

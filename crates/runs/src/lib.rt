@@ -1,4 +1,5 @@
-// The words of a lent run: read anywhere, and judged.
+// The words of a lent run: read anywhere, and judged. A slot word is tag * 65536 + place, a plain number in C's memory: it is taken apart where it
+// is read.
 #![tactic(auto)]
 
 ghost use Rattle.std.specs.Prelude.{◌≡◌, get_or};
