@@ -125,20 +125,6 @@ fn portions<R: Print>(
     })
 }
 
-// The bytes that a list may fill: document 01's 20 bytes for each of 4,096 places. It says nothing of its elements, so that no proof counts them; nor does the next.
-fn record_bytes() -> [u8; 81920]
-    ensures { 81920 ≡ length result }
-{
-    [0; 81920]
-}
-
-// A portion: room for one answer more while it is not full.
-fn portion_bytes() -> [u8; 299008]
-    ensures { 299008 ≡ length result }
-{
-    [0; 299008]
-}
-
 // Replays a text on a table of the program's own, with the calls shown before their answers or not.
 pub fn replay<R: Print>(rt: &R, calls: &[u8], echo: bool) -> io::Result<Replayed>
     requires { length calls.now ≤ 2097152 }
@@ -147,8 +133,10 @@ pub fn replay<R: Print>(rt: &R, calls: &[u8], echo: bool) -> io::Result<Replayed
     let mut slots = [0u32; 8192];
     let mut counters = [0u32; 1024];
     let mut items = [0u64; 4096];
-    let mut records = record_bytes();
-    let mut out = portion_bytes();
+    // The bytes that a list may fill: document 01's 20 bytes for each of 4,096 places.
+    let mut records = input::array_of::<u8, 81920>(0);
+    // A portion: room for one answer more while it is not full.
+    let mut out = input::array_of::<u8, 299008>(0);
     portions(
         rt,
         calls,

@@ -85,7 +85,8 @@ fn room_of(run: Run) -> usize
     }
 }
 
-// The words of a line into its run, which has as many words from then on.
+// The words of a line into its run, which has as many words from then on. judge_program has the like over lengths alone, under another contract:
+// one for both is no plainer.
 fn replace(
     line: &[u8],
     run: Run,
