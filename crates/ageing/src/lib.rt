@@ -1,5 +1,4 @@
 // The age of a permission: what is said of a stamp at a minute, under a limit, and how long is left; and the minutes that a set brings.
-// A limit and its minute stay two numbers, as the model's `read` and `verdict` take them: each clause would take a struct apart, no plainer.
 #![tactic(auto)]
 
 ghost use Rattle.std.specs.Prelude.{◌≡◌, ◌≤◌, false, Ok};
@@ -7,7 +6,7 @@ ghost use Rattle.model.specs.Age.{verdict, left_of, bad_time, bad_grant, late};
 ghost use Rattle.model.specs.Answers.{says_fresh};
 ghost use Rattle.model.specs.Said.{said_reading};
 
-use model::{Grant, Reading, Refusal};
+use model::{Grant, Reading};
 
 // As now, the largest number is no minute.
 const NO_MINUTE: u64 = u64::MAX;
@@ -36,8 +35,7 @@ fn left_of(limit: u64, age: u64) -> i64
     LEAST_LEFT
 }
 
-// What is said of a permission and its stamp. Requires a limit and a minute that refusal 3 lets pass: docs/STATEMENTS names this function, so it
-// takes no type that has no others. The mark is later than every minute,
+// What is said of a permission and its stamp. Requires a limit and a minute that refusal 3 lets pass. The mark is later than every minute,
 // so it is looked for only where the stamp is later than now: no other read pays for the test.
 pub fn judged(permission: u64, stamp: u64, limit: u64, minute: u64) -> Reading
     requires { bad_time limit minute ≡ false }
@@ -62,10 +60,10 @@ pub fn judged(permission: u64, stamp: u64, limit: u64, minute: u64) -> Reading
 }
 
 // The answer is fresh: serve marks by what it says.
-pub fn is_fresh(told: Result<Reading, Refusal>) -> bool
-    ensures { result ≡ says_fresh (said_reading told) }
+pub fn is_fresh(told: Reading) -> bool
+    ensures { result ≡ says_fresh (said_reading (Ok told)) }
 {
-    matches!(told, Ok(Reading::Fresh { .. }))
+    matches!(told, Reading::Fresh { .. })
 }
 
 // The minutes of a set are out of range: now is no minute, or the minute of issue is later. One test tells both, for behind the last

@@ -1,5 +1,4 @@
 // Stores under a budget: each block of document 01's stores, of which only the first `left` are made. The rest of the budget comes back.
-// Runs that are stored to are passed one by one: see model::Table.
 #![tactic(auto)]
 
 ghost use Rattle.std.specs.Prelude.{ℕ, ◌+◌, ◌*◌, ◌%◌, ◌^◌, List, slice_index};
@@ -10,7 +9,7 @@ ghost use Rattle.blocks.specs.Made.{Put, Made};
 use model::Grant;
 
 // As a budget, the largest number is the whole of it: more stores than any call makes.
-pub const ALL_STORES: u64 = u64::MAX;
+pub const ALL_STORES: u64 = 18446744073709551615;
 
 // One store: v at i of the run. An index outside of the run counts as a store and changes nothing, as in the definition.
 pub fn put<T: Copy>(run: &mut [T], i: usize, v: T, left: u64) -> u64

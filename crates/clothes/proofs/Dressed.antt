@@ -11,7 +11,7 @@ use Rattle.model.specs.Moves.{four_records}
 use Rattle.model.specs.Answers.{Answer, is, moves_told, value}
 use Rattle.model.specs.Calling.{Call}
 use Rattle.model.specs.Said.{plan_of, refusal_of, said_plan}
-use Rattle.model.specs.Promised.{WholeAs}
+use Rattle.model.specs.Promised.{CutAs, WholeAs}
 use Rattle.clothes.specs.Clothes.{number, plan_clothes, plan_dressed}
 use Rattle.clothes.specs.Dressed.{CutIn, WholeIn}
 use Rattle.model.specs.declared.Plan.{Plan}
@@ -21,6 +21,9 @@ use Rattle.clothes.specs.declared.BoughladderPlan.{BoughladderPlan}
 module _ (W : Ways) {m m' : Mem} {c : Call} {R : Type 0} {clothes : Answer → R} {a : Answer} {r : R} (e : r ≡ clothes a) where
   pub told_whole : WholeAs W m c m' a → WholeIn W clothes m c m' r
   told_whole s = record { told = e ∙ ap clothes s.told; left = s.left }
+
+  pub told_cut : {k : ℕ} → CutAs W m c k m' a → CutIn W clothes m c k m' r
+  told_cut s = record { told = e ∙ ap clothes s.told; left = s.left }
 
 -- plan: plan_of by whether there is one
 abbrev plan_told : Bool → Answer → Result Plan Refusal

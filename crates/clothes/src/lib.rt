@@ -176,7 +176,7 @@ impl From<Result<Plan, Refusal>> for BoughladderPlan {
     }
 }
 
-// A call that tells no more than that it was done: a step, be it a move or the final store, delete, fresh. No `From`, as both types are foreign.
+// A call that tells no more than that it was done: a step, be it a move or the final store, delete, fresh.
 pub fn dress_done(told: Result<(), Refusal>) -> u32
     ensures moved { result ≡ number (said_move told) }
     ensures entered { result ≡ number (said_entry told) }
@@ -189,7 +189,7 @@ pub fn dress_done(told: Result<(), Refusal>) -> u32
     }
 }
 
-// With the hand that came back, which is why it is no `From`.
+// With the hand that came back.
 pub fn dress_evicting(told: Result<Evicted, Refusal>, hand: usize) -> BoughladderEvicting
     ensures { result ≡ turned_clothes hand (said_evicting told hand) }
 {

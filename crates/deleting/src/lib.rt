@@ -1,5 +1,4 @@
 // Delete, whole and cut: what it is to do is known before any store, and then done.
-// Runs that are stored to are passed one by one: see model::Table.
 #![tactic(auto)]
 
 ghost use Rattle.std.specs.Prelude.{◌≡◌};

@@ -1,5 +1,4 @@
 // Evict, whole and cut: CLOCK's victim is found before any store; then what the hand passed is cleared, and the victim goes.
-// Runs that are stored to are passed one by one: see model::Table.
 #![tactic(auto)]
 
 ghost use Rattle.std.specs.Prelude.{List, [], ◌&&◌, ℕ, ◌+◌, ◌*◌, ◌<◌, ◌≤◌, ◌≡◌, length};

@@ -1,6 +1,5 @@
 // From an animal's number to its tag, its two buckets and its counter; and the test of the three lengths.
-// The numbers of buckets and of counters stay numbers, with `Size n` and `0 < v` in the contracts: docs/STATEMENTS names these functions, so
-// none may take a narrower type.
+// The number of buckets stays a number, with `Size n` in each contract: docs/STATEMENTS names these functions, so none may take a narrower type.
 #![tactic(auto)]
 
 ghost use Rattle.std.specs.Prelude.{◌≡◌, ◌*◌, ◌%◌, ◌^◌, ◌<◌, min};
@@ -22,7 +21,7 @@ pub fn fnv_byte(h: u32, b: u8) -> u32
     mul_mod_2_32(h ^ u32::from(b), 16777619)
 }
 
-// FNV-1a over the eight bytes of an animal number, lowest first. Each step waits for the one before; but a byte of 0 only multiplies by the prime, so four or two of them on top are one product, by its power modulo 2^32. Written out with no loop, as wish 3 asks.
+// FNV-1a over the eight bytes of an animal number, lowest first. Each step waits for the one before; but a byte of 0 only multiplies by the prime, so four or two of them on top are one product, by its power modulo 2^32.
 pub fn hash_of(animal: u64) -> u32
     ensures { result ≡ hash animal }
 {
@@ -142,7 +141,7 @@ pub fn good_items_length(i: usize) -> bool
     (i % 4 == 0) & (4..=16384).contains(&i)
 }
 
-// The three lengths are those of a table. Numbers and no Table, which has not every length that this answers for.
+// The three lengths are those of a table.
 pub fn lengths_are_good(s: usize, v: usize, i: usize) -> bool
     ensures { result ≡ good_lengths four s v i }
 {

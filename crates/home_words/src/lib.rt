@@ -6,8 +6,7 @@ ghost use Rattle.model.specs.Choice.{any, choose, first};
 ghost use Rattle.model.specs.Memory.{damaged};
 ghost use Rattle.home_words.specs.HomeWords.{home_words, leads, tag_sum};
 
-// The words of the eight home slots, first bucket first: two buckets and no Homes, as this crate knows no hashing; by index, as a slice of four
-// becomes an array only by a `try_into` that can't fail. Requires the buckets to lie in the run: the reader's hot path then has no bounds check.
+// The words of the eight home slots, first bucket first. Requires the buckets to lie in the run: the reader's hot path then has no bounds check.
 pub fn home_words_of(slots: &[u32], first: u32, second: u32) -> [u32; 8]
     requires { (first * 4 + 4 ≤ length slots.now) × (second * 4 + 4 ≤ length slots.now) }
     ensures { result ≡ home_words 4 slots.now first second }
@@ -72,7 +71,7 @@ pub fn hit_by_slots(items: &[u64], words: [u32; 8], tag: u32, animal: u64) -> Op
         .find(|w| leads(items, *w, tag, animal))
 }
 
-// The word of the hit. The sum says whether one word has the tag, and then which. The caller makes it: here it would ask that the tag fits a byte.
+// The word of the hit. The sum says whether one word has the tag, and then which.
 #[inline(always)]
 pub fn hit_word(items: &[u64], words: [u32; 8], tag: u32, animal: u64, sum: u32) -> Option<u32>
     requires summed { (1 ≤ tag) × (sum ≡ tag_sum tag words) }

@@ -6,18 +6,11 @@ ghost use Rattle.std.specs.Io.KnownBytes.{Consumes, IsAtEnd};
 
 use std::io::{self, Read};
 
-// An array of one word. It says nothing of its elements, so that no proof counts them.
-pub fn array_of<T: Copy, const N: usize>(word: T) -> [T; N]
-    ensures { N ≡ length result }
-{
-    [word; N]
-}
-
-// 65,536 zeros.
+// 65,536 zeros. It says nothing of its elements, so that no proof counts them.
 pub fn large_buffer() -> [u8; 65536]
     ensures { 65536 ≡ length result }
 {
-    array_of(0)
+    [0; 65536]
 }
 
 // How many bytes of an input stand at the start of the memory, and what the system said if a read failed: the bytes before it count too, so

@@ -6,8 +6,7 @@ ghost use Rattle.model.specs.Choice.{first, range};
 ghost use Rattle.model.specs.Shape.{four};
 ghost use Rattle.judgement.specs.Conditions.{is_hurt, is_misshapen, is_uneven, is_unswept, is_wide};
 
-// 1: the lowest run of a wrong length: 0 slots, 1 counters, 2 items, by wish 5's numbers. Three lengths and no Table: docs/STATEMENTS names this
-// function, and no Table has every length that it answers for.
+// 1: the lowest run of a wrong length: 0 slots, 1 counters, 2 items.
 pub fn misshapen_run(s: usize, v: usize, i: usize) -> Option<usize>
     ensures { result ≡ first (is_misshapen four s v i) (range 0 3) }
 {

@@ -25,8 +25,7 @@ impl From<Condition> for u32 {
     }
 }
 
-// A no: the first broken condition, and the lowest run, slot, counter or place that breaks it: one number for all eight, as wish 5 and the C
-// interface have it.
+// A no: the first broken condition, and the lowest run, slot, counter or place that breaks it.
 #[derive(Clone, Copy, Debug, PartialEq, Eq)]
 pub struct Broken {
     pub condition: Condition,

@@ -1,14 +1,16 @@
 -- The four numbers of an animal lie in the runs of a table of good lengths. Assumes nothing.
-use Prim.Native.Nat.{ℕ, ◌+◌, ◌*◌, ◌<◌, ◌≤◌, ◌/◌, ◌^◌, min}
+use Prim.Native.Nat.{ℕ, ◌+◌, ◌*◌, ◌<◌, ◌≤◌, ◌%◌, ◌/◌, ◌^◌, min}
 use native.Mathlib.Nat.{mod-lt, mul-le-mul_right, suc-mul}
 use native.Mathlib.Omega.{arith}
 use mathlib.Core.Path.{◌≡◌, refl}
 use mathlib.Core.Bool.{true, false, Bool, ◌&&◌}
 use mathlib.Core.List.{List}
 use lib.ListN.{length}
+use lib.Dec.{eqb, leb}
+use borrow.Author.Tests.{leb-true}
 use Rattle.model.specs.Memory.{Mem, mem}
 use Rattle.model.specs.Hash.{Size}
-use Rattle.model.specs.Shape.{Ways, right_lengths, second_of, shape_of}
+use Rattle.model.specs.Shape.{Ways, good_counters, good_items, good_lengths, good_slots, right_lengths, second_of, shape_of}
 use Rattle.model.proofs.Hash.{size_most}
 use Rattle.model.proofs.ListLaws.{true_false}
 use Rattle.model.proofs.ShapeLaws.{Lawful}
@@ -31,6 +33,18 @@ module _ (W : Ways) (s c i : List ℕ) (right : right_lengths W (mem s c i) ≡ 
 
   pub places_fit : length i / 4 < 2 ^ 32
   places_fit = omega (arith, (fit W (mem s c i) right).few)
+
+  -- there is a place, and a slot word can name each
+  pub places_some : 1 ≤ length i / 4
+  unfolding good_lengths good_items
+  places_some =
+      let a = both (good_slots W (length s)) (good_counters (length c) && good_items (length i)) right in
+      let b = both (good_counters (length c)) (good_items (length i)) a.1 in
+      let d = both (eqb (length i % 4) 0) (leb 4 (length i) && leb (length i) 16384) b.1 in
+      omega (arith, leb-true 4 (length i) (both (leb 4 (length i)) (leb (length i) 16384) d.1).0)
+
+  pub places_named : length i / 4 ≤ 65536
+  places_named = omega (arith, (fit W (mem s c i) right).few)
 
 module _ (W : Ways) (m : Mem) (right : right_lengths W m ≡ true) where
   -- what the hash takes

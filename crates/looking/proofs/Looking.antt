@@ -81,6 +81,9 @@ module _ (W : Ways) (m : Mem) (x : ℕ) {A : Type 0} (a : A) {e : Result A Refus
     pub sound_value : a ≡ c
     sound_value = now_calm.same
 
+    pub neither_due : {B : Type 0} (v : B) → sound W m x v ≡ Ok v
+    neither_due v = ap₂ (λ b d. choose b (Err refusal.Busy) (choose d (Err refusal.Damaged) (Ok v))) now_calm.calm now_calm.whole
+
     pub sound_calm : (o : Outcome) → choose (busy (shape_of W m) m x) (refuse 8) (choose (home_damage (shape_of W m) m x) (refuse 4) o) ≡ o
     sound_calm o = ap₂ (λ b d. choose b (refuse 8) (choose d (refuse 4) o)) now_calm.calm now_calm.whole
 

@@ -1,5 +1,4 @@
 // What every call about an animal looks at: its home words, judged and compared once, and the slot of a word.
-// Good lengths stay a `requires`: docs/STATEMENTS names these functions, so none may take a narrower type than Table.
 #![tactic(auto)]
 
 ghost use Rattle.std.specs.Prelude.{◌≡◌, ◌++◌, ◌+◌, ◌*◌, ◌%◌, ◌<◌, ◌≤◌, length, get_or, eqb, true, unwrap_or};
@@ -11,8 +10,7 @@ ghost use Rattle.looking.specs.Look.{due, early, HomesIn, LooksHome, LooksUp};
 use hashing::Homes;
 use model::{Refusal, Table};
 
-// Refusals 1, 2 and 3, in this order. Three lengths and no Table: docs/STATEMENTS names this function, and no Table has every length that it
-// answers for.
+// Refusals 1, 2 and 3, in this order. The three lengths and no Table: most callers lend runs that they store to.
 #[inline(always)]
 pub fn refused_early(s: usize, v: usize, i: usize, animal: u64, bad: bool) -> Result<(), Refusal>
     ensures { result ≡ early (good_lengths four s v i) animal bad }
@@ -97,15 +95,14 @@ pub fn refused_first(table: &Table, animal: u64, bad: bool) -> Result<(), Refusa
     Ok(())
 }
 
-// What a call about an animal looks up: a refusal, or the word of the hit. The homes are told on a refusal too, as
-// `LooksUp` promises.
+// What a call about an animal looks up: a refusal, or the word of the hit. The homes are known on a refusal too.
 #[derive(Clone, Copy)]
 pub struct Looked {
     pub homes: Homes,
     pub hit: Result<Option<u32>, Refusal>,
 }
 
-// In a table of good lengths: the callers have refused any other. A match and no `map`, whose closure would know nothing of the words.
+// In a table of good lengths: the callers have refused any other.
 #[inline(always)]
 pub fn look_up(table: &Table, animal: u64) -> Looked
     requires { right_lengths four (seen table.now) ≡ true }

@@ -74,6 +74,12 @@ stop_le S T bs = (stop_is S T bs).top
 
 -- what a loop that stops at the first free slot, or at the first bucket with one, has found
 module _ (S : Layout) (T : List ℕ) where
+  pub lowest_same : (b x : ℕ) → x ≤ S.ways → (x < S.ways → word_in S T b x ≡ 0) → ((i : ℕ) → i < x → word_in S T b i ≢ 0) → x ≡ free_slot S T b
+  lowest_same b x top free under =
+      let r = slot_is S T b in
+      dite (dec_lt x (free_slot S T b)) (λ h. absurd (r.under x (omega arith) h (free (omega (arith, r.top))))) λ nl.
+      dite (dec_lt (free_slot S T b) x) (λ h. absurd (under (free_slot S T b) h (r.free (omega arith)))) λ ng. omega arith
+
   pub first_same : (bs : List ℕ) (q : ℕ) → q ≤ length bs → (q < length bs → Free S T (get_or bs q 0)) → ((i : ℕ) → i < q → ¬ Free S T (get_or bs i 0))
       → q ≡ first_free S T bs
   first_same bs q top free before =

@@ -1,5 +1,4 @@
 // The moves of a path, far end first, under a budget. The ways of a table come in as a shift: it has 2^shift slots a bucket.
-// Runs that are stored to are passed one by one: see model::Table.
 #![tactic(auto)]
 
 ghost use Rattle.std.specs.Prelude.{◌≡◌, List, ℕ, ◌^◌, length};

@@ -10,8 +10,7 @@ ghost use Rattle.paths.specs.Path.{BackFrom, room_at, room_from};
 
 use model::{MoveRecord, NO_MOVE, Refusal};
 
-// An entry of the visit queue: the bucket of a visit. What put it into the queue is told by its position, in an array of 682, as document 01 names
-// it.
+// An entry of the visit queue: the bucket of a visit. What put it into the queue is told by its position.
 pub type Entry = u16;
 
 // Room, after so many visits: the first `count` records are the moves, the far end first, and `slot` is free after them. Four records and a
@@ -24,7 +23,7 @@ pub struct Found {
     pub slot: usize,
 }
 
-// The bucket that a word in bucket b leads to, among n, of which `Size n` stays a `requires` as in hashing. A bucket's number fits 16 bits: there are at most 2,048.
+// The bucket that a word in bucket b leads to. A bucket's number fits 16 bits: there are at most 2,048.
 pub fn child(b: u32, w: u32, n: u32) -> Entry
     requires { Size n × (b < n) }
     ensures { result ≡ other_bucket n (tag w) b }
@@ -32,7 +31,7 @@ pub fn child(b: u32, w: u32, n: u32) -> Entry
     hashing::other_of(b, w / 65536, n) as Entry
 }
 
-// All four words of bucket b are read before any is judged; by index, as a slice of four becomes an array only by a `try_into` that can't fail.
+// All four words of bucket b are read before any is judged.
 pub fn words_at(slots: &[u32], b: u32) -> [u32; 4]
     requires { b * 4 + 4 ≤ length slots.now }
     ensures { result ≡ bucket_words 4 slots.now b }

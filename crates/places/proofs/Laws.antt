@@ -1,12 +1,12 @@
 -- Laws of the walks: one for each way through a turn of a loop. Assumes nothing.
 use Prim.Native.Nat.{ℕ, ◌+◌, ◌*◌, ◌<◌, suc, ◌≤◌, ◌-◌, ◌/◌, zero}
-use native.Mathlib.Nat.{add-zero}
+use native.Mathlib.Nat.{add-zero, sub-zero}
 use native.Mathlib.Omega.{arith}
 use native.Mathlib.Decide.{dec_lt}
 use mathlib.Core.Path.{◌≡◌, refl, sym, ◌∙◌}
 use mathlib.Core.Logic.{dite}
 use mathlib.Core.Bool.{Bool, true, false, not, ◌&&◌, ◌||◌}
-use Rattle.std.specs.Prelude.{Some, None}
+use Rattle.std.specs.Prelude.{Option, Some, None}
 use mathlib.Core.List.{List}
 use lib.Dec.{eqb, leb}
 use borrow.Author.Tests.{lt-ltb, le-ltb}
@@ -44,6 +44,9 @@ pub record Looking (m : ℕ) (l : List ℕ) (hand h n : ℕ) : Type 0 where
   pub upto : n ≤ 2 * m
   pub within : h < m
   pub same : seek_victim m l (2 * m - n) h n ≡ victim m l hand
+
+pub look_first : {m hand : ℕ} (l : List ℕ) → hand < m → Looking m l hand hand 0
+look_first l e = record { upto = omega arith; within = e; same = rw sub-zero }
 
 module _ {m hand h n : ℕ} {l : List ℕ} (s : Looking m l hand h n) where
   look : n < 2 * m → seek_victim m l (2 * m - n) h n
@@ -97,3 +100,7 @@ by_others (suc n) {m} {x} {q} {l} s h t =
 pub by_turn : {m x t : ℕ} {l : List ℕ} {b : Bool} → NoneYet m l x (16 * t) → t < m / 16 → b ≡ list_any (has l x) (range_with_len (16 * t) 16)
     → b ≡ false → NoneYet m l x (16 * (t + 1))
 by_turn {t = t} s h e q = let g : 16 * (t + 1) ≡ 16 * t + 16 = omega arith in rw g (by_others 16 s (omega arith) (sym e ∙ q))
+
+-- where no place so far has it, what is found in the rest is what is asked for
+pub by_rest : {m x p : ℕ} {l : List ℕ} {o : Option ℕ} → NoneYet m l x p → o ≡ first_from m l x p → o ≡ first_with m l x
+by_rest s e = e ∙ s.same

@@ -1,5 +1,4 @@
-// Walks over the item words, four to a place: the clock hand and its victim, the first place with a number, the lowest vacant one. The number of
-// places stands beside the items, as in the model's `victim` and `vacant_place`: with the items alone each clause divides their length, no plainer.
+// Walks over the item words, four to a place: the clock hand and its victim, the first place with a number, the lowest vacant one.
 #![tactic(auto)]
 
 ghost use Rattle.std.specs.Prelude.{◌≡◌, ◌+◌, ◌*◌, ◌<◌, ◌≤◌, length};
@@ -67,8 +66,7 @@ fn place_from(items: &[u64], m: usize, p: usize, x: u64) -> Option<usize>
 }
 
 // The first of m places that has the number: sixteen a turn, a test which the compiler unrolls, as it does not a walk that may end at any
-// place; then place by place where one of them has it or fewer are left. One `find` over all
-// of them takes a third longer (docs/DESIGN-PASS.md).
+// place; then place by place where one of them has it or fewer are left.
 #[inline(always)]
 pub fn place_of(items: &[u64], m: usize, x: u64) -> Option<usize>
     requires { (m ≤ 4096) × (length items.now ≡ 4 * m) }

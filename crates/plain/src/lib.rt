@@ -10,15 +10,14 @@ ghost use Rattle.plain.specs.Plain.{plain_read};
 
 use model::{Reading, Refusal};
 
-// The items are whole places, 1 to 4,096 of them. hashing has the same test, which an engine that stands on no part of
-// the table's does not call.
+// The items are whole places, 1 to 4,096 of them. hashing has the same test, which an engine that knows no hashing does not call.
 fn is_good_length(words: usize) -> bool
     ensures { result ≡ good_items words }
 {
     (words % 4 == 0) & (4..=16384).contains(&words)
 }
 
-// A place is judged as read judges its hit: the like in reading has a test more, for speed, and is a part of the table's.
+// A place is judged as read judges its hit.
 fn judged_at(items: &[u64], p: usize, limit: u64, minute: u64) -> Reading
     requires p_in_bounds { 4 * p + 4 ≤ length items.now }
     requires minute_value { bad_time limit minute ≡ false }

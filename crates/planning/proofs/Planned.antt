@@ -15,7 +15,7 @@ use Rattle.model.proofs.Said.{refusal_back}
 use Rattle.looking.specs.Look.{LooksUp, Passed, early}
 use Rattle.looking.proofs.Early.{early_outcome}
 use Rattle.looking.proofs.Looking.{look_holds, look_lacks, look_refused}
-use Rattle.vacancy.specs.Room.{RoomIs, plan_by, planning_new}
+use Rattle.vacancy.specs.Room.{Homed, RoomIs, plan_by, planning_new}
 use Rattle.model.specs.declared.Grant.{Grant}
 use Rattle.model.specs.declared.Plan.{Plan}
 use Rattle.model.specs.declared.Refusal.{Refusal}
@@ -47,6 +47,9 @@ module _ (W : Ways) (m : Mem) (g : Grant) where
   plan_early eb e {r} q = comes_to (early_outcome W m g.animal (bad_grant g) (rw eb at e) q rest) (plan_refuses r)
 
   module _ (passed : Passed W m g.animal (bad_grant g)) {r : Looked} (l : LooksUp W m g.animal r) where
+    pub plan_homed : Homed W m g.animal r.homes
+    plan_homed = record { right = passed.lengths; homes_are = l.homes_are }
+
     pub plan_refused : {e : Refusal} → r.hit ≡ Err e → Err e ≡ plan_of (lent_call W m (plan_set g)).answer
     plan_refused {e} q = comes_to (look_refused W m g.animal (bad_grant g) rest passed l q) (plan_refuses e)
 

@@ -1,5 +1,4 @@
 // Conditions 4, 5 and 6 of wish 5: slots and the places they point to. 5 and 6 look at an animal's home slots only, so that the time is linear.
-// Good lengths stay a `requires`: docs/STATEMENTS names these functions, so none may take a narrower type than Table.
 #![tactic(auto)]
 
 ghost use Rattle.std.specs.Prelude.{◌≡◌, true, ◌+◌, ◌*◌, ◌/◌, ◌<◌, length};

@@ -1,5 +1,4 @@
 // Read, serve and find.
-// Runs that are stored to are passed one by one: see model::Table.
 #![tactic(auto)]
 
 ghost use Rattle.std.specs.Prelude.{◌≡◌, false, ◌+◌, ◌*◌, ◌≤◌, length, set, Ok};
@@ -76,7 +75,7 @@ pub fn serve(
     match looking::look_up(&table, animal).hit? {
         Some(word) => {
             let told = judged_at(items, word % 65536, limit, minute);
-            mark_recent(items, word % 65536, ageing::is_fresh(Ok(told)));
+            mark_recent(items, word % 65536, ageing::is_fresh(told));
             Ok(told)
         }
         None => Ok(Reading::Absent),

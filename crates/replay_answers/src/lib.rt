@@ -62,7 +62,7 @@ pub fn put_setting(buffer: &mut [u8], at: usize, said: Result<Stored, Refusal>) 
     }
 }
 
-// A plan's line: the place and the slot, and then the numbers of its moves, written out in fixed memory: there is no heap to gather them in.
+// A plan's line: the place and the slot, and then the numbers of its moves.
 fn put_planned(buffer: &mut [u8], at: usize, plan: Plan) -> usize
     requires { (at + 384 ≤ length buffer.old) × (plan.count ≤ 4) }
     ensures { Put (text (planned (take plan.count plan.moves) plan.place plan.slot)) at buffer.old buffer.new result × (result ≤ at + 384) }

@@ -1,6 +1,5 @@
 // The calls as the replay program makes them: each with the line of its answer. The runs that a call stores to, the buffer and the position
 // in it stay parameters of their own: a struct round a `&mut` would need a clause on its name in every contract.
-// An animal, a limit and a minute stay numbers of their own, as the line and the call have them.
 #![tactic(auto)]
 
 ghost use Rattle.std.specs.Prelude.{◌≡◌, ◌+◌, ◌≤◌, length};

@@ -43,7 +43,7 @@ fn top_of(run: Run) -> u64
     }
 }
 
-// How many words there are, each a number up to `top`; or why the first that is none is none. `count` is the answer, and no index.
+// How many words there are, each a number up to `top`; or why the first that is none is none.
 fn weigh(line: Words, top: u64) -> Result<usize, Reason>
     ensures { numbered result ≡ weight (weighed top (words line.entry.0.now)) }
 {

@@ -55,7 +55,6 @@ fn portion(
     ensures from_lt_from { (start.from < result.from) × (result.at ≤ length out.old) }
 {
     let mut state = start;
-    // No `for`: the position in the text goes along in the State, from portion to portion.
     while state.from < calls.len() {
         if out.len() - state.at < 294912 {
             return state;
@@ -113,7 +112,6 @@ fn portions<R: Print>(
         at: 0,
     };
     let mut written: u64 = 0;
-    // No `for`: a portion is as many lines as the buffer holds.
     while state.from < calls.len() {
         let full = portion(calls, echo, slots, counters, items, records, out, state);
         written = hand_over(rt, &out[..full.at], calls, echo, written)?;
@@ -125,6 +123,20 @@ fn portions<R: Print>(
     })
 }
 
+// The bytes that a list may fill: document 01's 20 bytes for each of 4,096 places. It says nothing of its elements, so that no proof counts them; nor does the next.
+fn record_bytes() -> [u8; 81920]
+    ensures { 81920 ≡ length result }
+{
+    [0; 81920]
+}
+
+// A portion: room for one answer more while it is not full.
+fn portion_bytes() -> [u8; 299008]
+    ensures { 299008 ≡ length result }
+{
+    [0; 299008]
+}
+
 // Replays a text on a table of the program's own, with the calls shown before their answers or not.
 pub fn replay<R: Print>(rt: &R, calls: &[u8], echo: bool) -> io::Result<Replayed>
     requires { length calls.now ≤ 2097152 }
@@ -133,10 +145,8 @@ pub fn replay<R: Print>(rt: &R, calls: &[u8], echo: bool) -> io::Result<Replayed
     let mut slots = [0u32; 8192];
     let mut counters = [0u32; 1024];
     let mut items = [0u64; 4096];
-    // The bytes that a list may fill: document 01's 20 bytes for each of 4,096 places.
-    let mut records = input::array_of::<u8, 81920>(0);
-    // A portion: room for one answer more while it is not full.
-    let mut out = input::array_of::<u8, 299008>(0);
+    let mut records = record_bytes();
+    let mut out = portion_bytes();
     portions(
         rt,
         calls,

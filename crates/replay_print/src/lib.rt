@@ -15,8 +15,8 @@ fn digit(x: u64) -> u8
     b'0' + (x % 10) as u8
 }
 
-// The digits of a number from `at` on; the position behind them. They come last digit first, so they are collected from the end.
-// How many there are shows only then: a `for` over the twenty places would be left in its middle, no plainer.
+// The digits of a number from `at` on; the position behind them. They come last digit first, so they are collected from the end:
+// no range or chain gives how many there are.
 pub fn put_decimal(buffer: &mut [u8], at: usize, x: u64) -> usize
     requires { at + 20 ≤ length buffer.old }
     ensures { Put (decimal_of x) at buffer.old buffer.new result × (result ≤ at + 20) }
@@ -134,7 +134,7 @@ fn put_record(buffer: &mut [u8], at: usize, bytes: &[u8]) -> usize
     put_line(buffer, next, b"")
 }
 
-// The first n records of 20 bytes, a line each. By number, as the clause speaks of the first n: no `chunks_exact`, which is no plainer.
+// The first n records of 20 bytes, a line each.
 pub fn put_records(buffer: &mut [u8], at: usize, n: usize, records: &[u8]) -> usize
     requires n_in_bounds { 20 * n ≤ length records.now }
     requires n_in_bounds_2 { at + 41 * n ≤ length buffer.old }

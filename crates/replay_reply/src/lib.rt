@@ -85,8 +85,7 @@ fn room_of(run: Run) -> usize
     }
 }
 
-// The words of a line into its run, which has as many words from then on. judge_program has the like over lengths alone, under another contract:
-// one for both is no plainer.
+// The words of a line into its run, which has as many words from then on.
 fn replace(
     line: &[u8],
     run: Run,

@@ -81,7 +81,7 @@ pub struct Turn {
     pub hand: usize,
 }
 
-// A line's number and call before its answer, if they are to be shown. `row` counts the lines of the rows' text: any of them, so no Row.
+// A line's number and call before its answer, if they are to be shown.
 #[tactic(auto, unfolding(crate::specs::Replayed::shown))]
 pub fn show_call(
     rows: &[u8],

@@ -12,7 +12,7 @@ use model::Refusal;
 use replay_lines::Reason;
 use replay_rows::Row;
 
-// Where the replay stands: the lengths of the three runs in use, which are the fronts of runs that stay, and the hand; the lines that are behind it and how many of them were not understood, the position in the text, and in the buffer.
+// Where the replay stands: the lengths of the three runs in use and the hand; the lines that are behind it and how many of them were not understood, the position in the text, and in the buffer.
 #[derive(Clone, Copy)]
 pub struct State {
     pub slots: usize,

@@ -1,5 +1,4 @@
-// The words of a lent run: read anywhere, and judged. A slot word is tag * 65536 + place, a plain number in C's memory: it is taken apart where it
-// is read.
+// The words of a lent run: read anywhere, and judged.
 #![tactic(auto)]
 
 ghost use Rattle.std.specs.Prelude.{◌≡◌, get_or};

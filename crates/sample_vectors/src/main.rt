@@ -16,6 +16,21 @@ const GRANT: Grant = Grant {
     minute: 2,
 };
 
+// Twice as many slots as a table may have. It says nothing of its elements, so that no proof counts them; nor do the next two.
+fn too_many_slots() -> [u32; 16384] {
+    [0; 16384]
+}
+
+// The slots of the largest table.
+fn most_slots() -> [u32; 8192] {
+    [0; 8192]
+}
+
+// The item words of the largest table: 4,096 places.
+fn most_items() -> [u64; 16384] {
+    [0; 16384]
+}
+
 fn say(rt: &HostRuntime, words: &[u8]) {
     let _ = rt.write_all(words);
 }
@@ -62,10 +77,10 @@ fn say_signed(rt: &HostRuntime, word: &[u8]) {
 
 // Slots length 16,384 is refusal 1, and 8,192 is good.
 fn lengths(rt: &HostRuntime) {
-    let mut more = input::array_of::<u32, 16384>(0);
-    let mut slots = input::array_of::<u32, 8192>(0);
+    let mut more = too_many_slots();
+    let mut slots = most_slots();
     let mut counters = [0u32; 1024];
-    let mut items = input::array_of::<u64, 16384>(0);
+    let mut items = most_items();
     say(rt, b"slots length 16384: ");
     let said = starting::fresh(&mut more, &mut counters, &mut items);
     say_put(rt, |line| replay_answers::put_starting(line, 0, said));
@@ -120,9 +135,9 @@ fn say_evict(
 
 // The largest table with one animal, at place 0: the hand goes around from place 1, clears it, and takes it at the 8,192nd look.
 fn largest(rt: &HostRuntime) {
-    let mut slots = input::array_of::<u32, 8192>(0);
+    let mut slots = most_slots();
     let mut counters = [0u32; 1024];
-    let mut items = input::array_of::<u64, 16384>(0);
+    let mut items = most_items();
     say(rt, b"4096 places: ");
     let said = starting::fresh(&mut slots, &mut counters, &mut items);
     say_put(rt, |line| replay_answers::put_starting(line, 0, said));

@@ -91,6 +91,14 @@ module _ {n m : ℕ} {T : List ℕ} {b c : ℕ} {queue : List ℕ} {v : ℕ} (st
         go (crowded d f) t = cc
 
     -- none is, and slot s is the first that is free
+    pub slot_small : {s : ℕ} → r ≡ Ok (Some s) → s < 4
+    slot_small {s} t = go here t
+      where
+        go : {r : Result (Option ℕ) Refusal} → Judged S T (get_or Q v 0) m r → r ≡ Ok (Some s) → s < 4
+        go (bad d) t = cc
+        go (room {s = k} d h z) t = let same : k ≡ s = cc in omega arith
+        go (crowded d f) t = cc
+
     pub visit_room : {s : ℕ} {f : Found} → r ≡ Ok (Some s) → ((k : ℕ) → f ≡ room_from four k T queue v s) → FoundIs four n m T b c (Ok f)
     visit_room {s} {f} t e = go here t
       where

@@ -1,4 +1,4 @@
-// The breadth-first search for room: the buckets that it visits, and how it ends. Two buckets and no Homes: it looks at no tag and no counter.
+// The breadth-first search for room: the buckets that it visits, and how it ends.
 #![tactic(auto)]
 
 ghost use Rattle.model.specs.Shape.{four};

@@ -25,7 +25,7 @@ use Rattle.blocks.proofs.Budget.{Few, did_all, does_as, does_refuse, few_asked, 
 use Rattle.looking.specs.Look.{LooksUp, Passed, early}
 use Rattle.looking.proofs.Early.{early_outcome}
 use Rattle.looking.proofs.Looking.{look_holds, look_lacks, look_refused}
-use Rattle.vacancy.specs.Room.{entering_new}
+use Rattle.vacancy.specs.Room.{Homed, entering_new}
 use Rattle.model.specs.declared.Grant.{Grant}
 use Rattle.looking.specs.declared.Looked.{Looked}
 
@@ -39,6 +39,9 @@ module _ (W : Ways) (m : Mem) (g : Grant) where
   set_early eb e q = does_refuse (early_outcome W m g.animal (bad_grant g) (rw eb at e) q rest)
 
   module _ (passed : Passed W m g.animal (bad_grant g)) {r : Looked} (l : LooksUp W m g.animal r) where
+    pub set_homed : Homed W m g.animal r.homes
+    set_homed = record { right = passed.lengths; homes_are = l.homes_are }
+
     pub set_refused : {e : Refusal} {k : ℕ} → r.hit ≡ Err e → CutAs W m (set_animal g) k m (refused (refusal_number e))
     set_refused q = does_refuse (look_refused W m g.animal (bad_grant g) rest passed l q)
 

@@ -1,5 +1,4 @@
 // Set, whole and cut: an update of a held animal, or the moves of the search and a new entry.
-// Runs that are stored to are passed one by one: see model::Table.
 #![tactic(auto)]
 
 ghost use Rattle.std.specs.Prelude.{◌≡◌, List, ℕ, ◌+◌, ◌*◌, ◌%◌, ◌^◌, ◌≤◌, length, Ok};

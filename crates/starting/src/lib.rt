@@ -1,5 +1,4 @@
 // Fresh: zero in every word of three lent runs.
-// Runs that are stored to are passed one by one: see model::Table.
 #![tactic(auto)]
 
 ghost use Rattle.model.specs.Memory.{mem};

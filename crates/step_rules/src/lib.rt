@@ -1,6 +1,5 @@
 // The rule of a step by the words that it finds. Nothing is read here: whoever asks brings the words, of the table or of one that moves
-// would leave. The ways of a table come in as a shift: it has 2^shift slots a bucket. Two buckets and no
-// Homes, and `Size n` as in hashing: docs/STATEMENTS names these functions.
+// would leave. The ways of a table come in as a shift: it has 2^shift slots a bucket.
 #![tactic(auto)]
 
 ghost use Rattle.std.specs.Prelude.{◌^◌, ◌≤◌, ◌<◌, ◌≡◌};

@@ -1,5 +1,4 @@
 // A set in steps: one whole move of a plan, or its final store, each made exactly if its conditions hold on the table that it finds.
-// Runs that are stored to are passed one by one: see model::Table.
 #![tactic(auto)]
 
 ghost use Rattle.std.specs.Prelude.{◌≡◌, List, ℕ, ◌^◌, ◌/◌, length, get_or};
@@ -16,7 +15,7 @@ use hashing::Homes;
 use model::{Grant, MoveRecord, NO_MOVE, Refusal, Table};
 
 // The test and the do of a move: it may be made by its two words, and then the word that stands in its source moves. It knows the ways
-// by a shift only, and is proved for every budget, as docs/STATEMENTS says of a step's do.
+// by a shift only.
 fn make_move(
     slots: &mut [u32],
     counters: &mut [u32],
@@ -63,7 +62,7 @@ pub fn step_move(
     make_move(slots, counters, m, 2, v, blocks::ALL_STORES)
 }
 
-// Move number j of a plan, which is four records by value, as document 01 names them. Behind them stands no move, and 12 is given in its turn.
+// Move number j of a plan, which is four records by value. Behind them stands no move, and 12 is given in its turn.
 pub fn step_planned(
     slots: &mut [u32],
     counters: &mut [u32],

@@ -16,7 +16,7 @@ pub struct Room {
     pub found: Found,
 }
 
-// The look: the lowest vacant place, then the search. The grant is passed for the contract alone, which speaks of the set's outcome.
+// The look: the lowest vacant place, then the search.
 pub fn room_for(table: &Table, g: Grant, homes: Homes) -> Result<Room, Refusal>
     requires { Homed four (seen table.now) g.animal homes }
     ensures { RoomIs four (seen table.now) g homes result }
