@@ -34,10 +34,14 @@ refusal_of n =
     (choose (eqb n 7) refusal.Absent (choose (eqb n 8) refusal.Busy (choose (eqb n 9) refusal.ShortBuffer
     (choose (eqb n 10) refusal.NoVictim (choose (eqb n 11) refusal.Late refusal.NoStep))))))))))
 
--- a call's answer, by what a success says
+-- a call's answer, by what a success says and by the number of what refuses
+abbrev pub said_with : {A E : Type 0} → (E → ℕ) → (A → Answer) → Result A E → Answer
+said_with n f (Ok a) = f a
+said_with n f (Err e) = refused (n e)
+
+-- and by the number of a refusal
 abbrev pub said_by : {A : Type 0} → (A → Answer) → Result A Refusal → Answer
-said_by f (Ok a) = f a
-said_by f (Err r) = refused (refusal_number r)
+said_by f r = said_with refusal_number f r
 
 -- read, serve and the plain engine
 abbrev pub read_as : Reading → Answer

@@ -2,7 +2,7 @@
 // the wishes that have landed, stands in specs/, the proofs in proofs/.
 #![tactic(auto)]
 
-ghost use Rattle.std.specs.Prelude.{◌≡◌};
+ghost use Rattle.std.specs.Prelude.{◌≡◌, ℕ};
 ghost use Rattle.model.specs.Said.{refusal_number};
 
 // The three lent runs, for a look: slots, counters, items. Runs that are stored to are passed one by one: a struct round a `&mut` would need
@@ -61,6 +61,46 @@ impl From<Refusal> for u32 {
 
     fn from(refusal: Refusal) -> u32 {
         refusal as u32
+    }
+}
+
+// What is told as a number: a refusal by its own, and a number as itself.
+pub trait Numbered: Copy {
+    ghost number: { Self → ℕ };
+
+    fn number(self) -> u64
+        ensures { result ≡ number self };
+}
+
+impl Numbered for Refusal {
+    ghost number = { refusal_number };
+
+    fn number(self) -> u64 {
+        u64::from(u32::from(self))
+    }
+}
+
+impl Numbered for u32 {
+    ghost number = { λ n. n };
+
+    fn number(self) -> u64 {
+        u64::from(self)
+    }
+}
+
+impl Numbered for u64 {
+    ghost number = { λ n. n };
+
+    fn number(self) -> u64 {
+        self
+    }
+}
+
+impl Numbered for usize {
+    ghost number = { λ n. n };
+
+    fn number(self) -> u64 {
+        self as u64
     }
 }
 
