@@ -10,7 +10,7 @@ use mathlib.Core.List.{List, [], ◌∷◌, ◌++◌}
 use lib.ListN.{length, length-append, take, drop}
 use lib.Seq.{sets, sets-eq, take_at}
 use borrow.Author.Tests.{lt-ltb, le-ltb, eq-eqb, ne_eqb, not-false}
-use Rattle.std.specs.List.{filter, range_with_len}
+use Rattle.std.specs.List.{fold, range_with_len, sum_by}
 use Rattle.model.specs.Choice.{choose, range}
 use Rattle.model.specs.Memory.{Mem, animal, live, mem, permission, stamp}
 use Rattle.model.specs.Hash.{bytes}
@@ -60,16 +60,16 @@ pub no_places : (m p : ℕ) → m ≤ p → range p (m - p) ≡ []
 unfolding range
 no_places m p h = let e : m - p ≡ 0 = omega arith in rw e
 
--- the live places, as the library counts them
-pub counted : (l : List ℕ) (p n : ℕ) → length (filter (live l) (range_with_len p n)) ≡ live_count l (range p n)
+-- the live places, as the library sums them
+fold_live : (l : List ℕ) (z p n : ℕ) → fold (λ a q. a + choose (live l q) 1 0) z (range_with_len p n) ≡ z + live_count l (range p n)
 unfolding live_count range
-counted l p zero = refl
-counted l p (suc n) =
-    let more : List ℕ = filter (live l) (range_with_len (p + 1) n) in
-    let e : length more ≡ live_count l (range (suc p) n) = counted l (p + 1) n ∙ ap (λ k. live_count l (range k n)) (add-one p) in
-    bool (λ b. length (cond b (p ∷ more) more) ≡ choose b 1 0 + live_count l (range (suc p) n)) (live l p)
-    (λ t. omega (arith, e))
-    λ f. omega (arith, e)
+fold_live l z p zero = omega arith
+fold_live l z p (suc n) =
+    let e : live_count l (range (p + 1) n) ≡ live_count l (range (suc p) n) = ap (λ k. live_count l (range k n)) (add-one p) in
+    fold_live l (z + choose (live l p) 1 0) (p + 1) n ∙ omega (arith, e)
+
+pub counted : (l : List ℕ) (p n : ℕ) → sum_by (λ q. choose (live l q) 1 0) (range_with_len p n) ≡ live_count l (range p n)
+counted l p n = fold_live l 0 p n ∙ omega arith
 
 -- at most one a place
 pub count_most : (l : List ℕ) (n p : ℕ) → live_count l (range p n) ≤ n

@@ -15,7 +15,9 @@ use model::{Refusal, Table};
 fn count_live(items: &[u64]) -> usize
     ensures { result ≡ live_count items.now (range 0 (length items.now / 4)) }
 {
-    (0..items.len() / 4).filter(|&p| items[4 * p] != 0).count()
+    (0..items.len() / 4)
+        .map(|p| if items[4 * p] == 0 { 0 } else { 1 })
+        .sum()
 }
 
 // The record of a live place from `at` on, and nothing for a vacant one; the position behind it.

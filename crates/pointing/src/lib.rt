@@ -43,11 +43,14 @@ fn points_to(w: u32, p: u32) -> bool
     (w != 0) & (w % 65536 == p)
 }
 
-// How many of eight words point to place p.
-fn pointers(words: [u32; 8], p: u32) -> usize
+// How many of eight words point to place p: a sum and no `filter`, as nothing foretells which of them does.
+fn pointers(words: [u32; 8], p: u32) -> u32
     ensures { result ≡ count (names p) words }
 {
-    words.iter().filter(|w| points_to(**w, p)).count()
+    words
+        .iter()
+        .map(|w| if points_to(*w, p) { 1 } else { 0 })
+        .sum()
 }
 
 // Where every occupied slot is right for its place, all slots that point to a live place are home slots of its animal.
@@ -80,10 +83,13 @@ fn leads_to_twin(items: &[u64], w: u32, p: u32, x: u64) -> bool
     (w % 65536 != p) & (y == x)
 }
 
+// One of the eight words does: eagerly, as nothing foretells where an `any` would leave.
 fn twin_among(items: &[u64], words: [u32; 8], p: u32, x: u64) -> bool
     ensures { result ≡ any (λ w. twin items.now x p (place w)) words }
 {
-    words.iter().any(|w| leads_to_twin(items, *w, p, x))
+    words
+        .iter()
+        .fold(false, |twin, w| twin | leads_to_twin(items, *w, p, x))
 }
 
 // Where every live place is pointed to, a twin's slot is a home slot of the animal.
