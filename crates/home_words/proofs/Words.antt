@@ -30,6 +30,20 @@ or_in_turn : (a b c : Bool) → ((a || b) || c) ≡ (a || (b || c))
 or_in_turn true b c = refl
 or_in_turn false b c = refl
 
+any_nil : (f : ℕ → Bool) → any f [] ≡ false
+unfolding first
+any_nil f = refl
+
+any_eight : (f : ℕ → Bool) (a b c d e g h i : ℕ)
+    → ((((f a || f b) || f c) || f d) || (((f e || f g) || f h) || f i)) ≡ any f (a ∷ b ∷ c ∷ d ∷ e ∷ g ∷ h ∷ i ∷ [])
+any_eight f a b c d e g h i = simp (any_cons, any_nil, or_no, or_in_turn)
+
+-- eight words tested one by one, four and four: some test holds exactly if any of the words passes
+pub by_tests : (f : ℕ → Bool) (a b c d e g h i : ℕ) {p₀ p₁ p₂ p₃ p₄ p₅ p₆ p₇ : Bool}
+    → p₀ ≡ f a → p₁ ≡ f b → p₂ ≡ f c → p₃ ≡ f d → p₄ ≡ f e → p₅ ≡ f g → p₆ ≡ f h → p₇ ≡ f i
+    → ((((p₀ || p₁) || p₂) || p₃) || (((p₄ || p₅) || p₆) || p₇)) ≡ any f (a ∷ b ∷ c ∷ d ∷ e ∷ g ∷ h ∷ i ∷ [])
+by_tests f a b c d e g h i q₀ q₁ q₂ q₃ q₄ q₅ q₆ q₇ = rw (q₀, q₁, q₂, q₃, q₄, q₅, q₆, q₇) (any_eight f a b c d e g h i)
+
 -- by the library's words: an eager fold, a sum, a search
 fold_any : (f : ℕ → Bool) (b : Bool) (ws : List ℕ) → fold (λ b w. b || f w) b ws ≡ (b || any f ws)
 unfolding first

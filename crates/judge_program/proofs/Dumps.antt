@@ -14,8 +14,12 @@ use Rattle.std.proofs.lemmas.List.{take_rest}
 use Rattle.model.specs.Memory.{Mem, mem}
 use Rattle.replay_words.specs.Words.{is_end, joined, lines, mark_length, without_comment, without_mark, without_return, words}
 use Rattle.replay_words.specs.declared.Words.{Words}
-use Rattle.replay_loads.specs.Load.{loading}
+use Rattle.replay_lines.specs.Reasons.{reason_number}
+use Rattle.replay_lines.specs.declared.Reason.{Reason}
+use Rattle.replay_lines.specs.declared.Reason.TheVariants as reasons
+use Rattle.replay_loads.specs.Load.{faulty, loading, other}
 use Rattle.replay_loads.specs.Cursor.{Measures, PouredLine}
+use Rattle.replay_loads.specs.declared.Measured.{Measured}
 use Rattle.replay_loads.specs.declared.Measured.TheVariants as measures
 use Rattle.replay_loads.specs.declared.Run.TheVariants as runs
 use Rattle.replay_loads.proofs.Loads.{poured_front}
@@ -51,6 +55,28 @@ module _ (n : ℕ) (line : List ℕ) {slots counters items slots' counters' item
       → Taken n line slots counters items known slots' counters' items' r
   whole_taken f = record { taken = any_dump f }
 
+module _ (n : ℕ) (line : List ℕ) {slots counters items : List ℕ} {known : Lengths} {x : Measured} (e : Measures (loading line) x) where
+  -- a line that loads no run and is blank leaves the lengths as they were
+  pub blank_taken : {b : Bool} → x ≡ measures.Other → b ≡ is_blank line → b ≡ true
+      → Taken n line slots counters items known slots counters items (Ok known)
+  blank_taken q f t =
+      let none : loading line ≡ other = rw q at e in
+      whole_taken n line (λ m k es ev ei. rw (none, sym f ∙ t) (record { measured_so = (es, ev, ei); fronts = k }))
+
+  -- one that is not blank has an unknown word
+  pub strange_taken : {b : Bool} → x ≡ measures.Other → b ≡ is_blank line → b ≡ false
+      → Taken n line slots counters items known slots counters items (Err (record { line = n; why = reasons.UnknownWord }))
+  strange_taken q f t =
+      let none : loading line ≡ other = rw q at e in
+      whole_taken n line (λ m k es ev ei. rw (none, sym f ∙ t) (record { measured_so = (refl, refl); fronts = tt }))
+
+  -- one that names a run and is not understood is told with its reason
+  pub faulty_taken : {why : Reason} → x ≡ measures.Faulty why
+      → Taken n line slots counters items known slots counters items (Err (record { line = n; why = why }))
+  faulty_taken {why} q =
+      let bad : loading line ≡ faulty (reason_number why) = rw q at e in
+      whole_taken n line (λ m k es ev ei. rw bad (record { measured_so = (refl, refl); fronts = tt }))
+
 -- a line that loads a run: its words stand in front of what is lent
 poured : (ws lent lent' : List ℕ) → lent' ≡ sets lent 0 ws → Front ws lent'
 poured ws lent lent' e h =
@@ -81,6 +107,23 @@ module _ (n : ℕ) (line : List ℕ) {slots counters items : List ℕ} {count : 
       (λ m k es ev ei.
       rw l
       (record { measured_so = (es, ev, c); fronts = record { slots_front = k.slots_front; counters_front = k.counters_front; items_front = poured ws items items' (p.poured 2 ws l refl) } }))
+
+-- by what stood before it
+module _ (n : ℕ) (line : List ℕ) {slots counters items : List ℕ} where
+  -- lengths: the dump that has them stands with the line as it was taken
+  pub as_whole : {r : Result Lengths Unclear} {slots' counters' items' : List ℕ} {known : Lengths} {r' : Result Lengths Unclear} → r ≡ Ok known
+      → Taken n line slots counters items known slots' counters' items' r'
+      → (d : Dump) → Stands d slots counters items r → Stands (with_line n d line) slots' counters' items' r'
+  as_whole e t d st = t.taken d (rw e at st)
+
+  one_unclear : {at : Unclear} (d : Dump) → Stands d slots counters items (Err at) → Stands (with_line n d line) slots counters items (Err at)
+  one_unclear (whole m) st = absurd st.measured_so
+  one_unclear (unclear k y) st = st
+
+  -- a line that is not understood: it is told still, whatever stands behind it
+  pub as_unclear : {r : Result Lengths Unclear} {at : Unclear} → r ≡ Err at
+      → (d : Dump) → Stands d slots counters items r → Stands (with_line n d line) slots counters items (Err at)
+  as_unclear e d st = one_unclear d (rw e at st)
 
 -- n lines were understood, and with the rest they make the dump
 pub record Reading (text slots counters items : List ℕ) (rest : List (List ℕ)) (n : ℕ) (known : Lengths) : Type 0 where

@@ -1,11 +1,11 @@
 -- What is told of a dump. Assumes nothing.
-use Prim.Native.Nat.{ℕ, ◌%◌, ◌≤◌}
+use Prim.Native.Nat.{ℕ, ◌+◌, ◌%◌, ◌≤◌}
 use native.Mathlib.Decide.{dec_lt}
 use native.Mathlib.Omega.{arith}
 use mathlib.Core.Path.{◌≡◌, refl, sym, ap, ◌∙◌}
 use mathlib.Core.Logic.{dite}
 use mathlib.Core.Bool.{◌&&◌}
-use Rattle.std.specs.Prelude.{Option, Some, None, Result, Err}
+use Rattle.std.specs.Prelude.{Option, Some, None, Result, Ok, Err}
 use mathlib.Core.List.{List}
 use lib.ListN.{length, take}
 use lib.Seq.{length-take-le}
@@ -26,8 +26,12 @@ use Rattle.judgement.specs.declared.Condition.TheVariants as conditions
 use Rattle.judgement.proofs.Counting.{none_range}
 use Rattle.judging.proofs.InTurn.{by_one}
 use Rattle.replay_loads.proofs.Loads.{poured_front}
-use Rattle.judge_program.specs.Standing.{Judged}
+use Rattle.replay_lines.specs.Reasons.{reason_number}
+use Rattle.replay_answers.specs.Text.{judged, not_understood}
+use Rattle.judge_program.specs.Dump.{Dump, dump_of, told, unclear, whole}
+use Rattle.judge_program.specs.Standing.{Judged, Stands, Told}
 use Rattle.judge_program.specs.declared.Lengths.{Lengths}
+use Rattle.judge_program.specs.declared.Unclear.{Unclear}
 
 -- good lengths fit what is lent
 module _ (s v i : ℕ) {b : Option ℕ} (e : b ≡ first (is_misshapen four s v i) (range 0 3)) (q : b ≡ None) where
@@ -84,8 +88,39 @@ module _ (slots counters items : List ℕ) {known : Lengths} {b : Option ℕ} (e
             f ∙ rw (st.measured_so.0, st.measured_so.1, st.measured_so.2, st.fronts.slots_front short_slots, st.fronts.counters_front short_counters, st.fronts.items_front short_items) refl;
       }
 
+-- what is told
+module _ {slots counters items out out' : List ℕ} {end : ℕ} where
+  told_whole : {known : Lengths} {v : Result Unit Broken} → Judged slots counters items known v → Put (judged (said v)) 0 out out' end
+      → (d : Dump) → Stands d slots counters items (Ok known) → Put (told d) 0 out out' end
+  told_whole j p (whole m) st = rw (← j.judged m st) p
+  told_whole j p (unclear n y) st = absurd st.measured_so
+
+  -- of a dump whose lines were all understood: the line of the verdict
+  pub verdict_told : {r : Result Lengths Unclear} {known : Lengths} {v : Result Unit Broken} → r ≡ Ok known → Judged slots counters items known v → Put (judged (said v)) 0 out out' end
+      → end ≤ 0 + 384 → Told slots counters items r out out' end
+  verdict_told q j p near = rw q (record { told_so = told_whole j p; near = omega arith })
+
+  told_unclear : {at : Unclear} → Put (not_understood at.line (reason_number at.why)) 0 out out' end
+      → (d : Dump) → Stands d slots counters items (Err at) → Put (told d) 0 out out' end
+  told_unclear p (whole m) st = absurd st.measured_so
+  told_unclear p (unclear n y) st = rw (← st.measured_so.0, ← st.measured_so.1) p
+
+  -- of another: which line was not understood, and why
+  pub line_told : {r : Result Lengths Unclear} {at : Unclear} → r ≡ Err at → Put (not_understood at.line (reason_number at.why)) 0 out out' end → end ≤ 0 + 384
+      → Told slots counters items r out out' end
+  line_told q p near = rw q (record { told_so = told_unclear p; near = omega arith })
+
+-- what is told of the dump that stands there is told of the text that it was read from
+pub text_told : {slots counters items out out' : List ℕ} {r : Result Lengths Unclear} {end : ℕ} (text : List ℕ) → Stands (dump_of text) slots counters items r
+    → Told slots counters items r out out' end → Put (told (dump_of text)) 0 out out' end
+text_told text st t = t.told_so (dump_of text) st
+
 -- and goes out whole
 module _ (out : List ℕ) {end : ℕ} (near : end ≤ 384) (room : 384 ≤ length out) where
+  -- as many bytes go out as the line has
+  pub line_front : (out' : List ℕ) → length out' ≡ length out → end ≡ length (take end out')
+  line_front out' l = sym (length-take-le end out' (omega arith))
+
   pub line_is : (bs : List ℕ) {out' : List ℕ} → Put bs 0 out out' end → take end out' ≡ bs
   line_is bs p =
       let long : end ≡ length bs = omega (arith, p.next) in

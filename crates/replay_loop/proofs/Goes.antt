@@ -1,5 +1,5 @@
 -- Line by line: what is in the buffer and what is still to come stay the same. Assumes nothing.
-use Prim.Native.Nat.{ℕ, ◌+◌, ◌≤◌}
+use Prim.Native.Nat.{ℕ, ◌+◌, ◌-◌, ◌≤◌, ◌<◌}
 use native.Mathlib.Omega.{arith}
 use native.Mathlib.Numerals.{add-one}
 use mathlib.Core.Path.{◌≡◌, refl, sym, ap, ap₂, ◌∙◌}
@@ -17,7 +17,7 @@ use Rattle.replay_words.specs.declared.Piece.{Piece}
 use Rattle.replay_loads.specs.Load.{Load, faulty, loading, loads, other}
 use Rattle.replay_rows.specs.World.{Reply, World, longest_line}
 use Rattle.replay_rows.specs.Replayed.{heard, missed_in, replayed, reply_to, unheard_by, unheard_line}
-use Rattle.replay_steps.specs.Standing.{in_use}
+use Rattle.replay_steps.specs.Standing.{in_use, Held}
 use Rattle.replay_steps.specs.declared.State.{State}
 use Rattle.replay_reply.specs.Answered.{Answers}
 use Rattle.replay_loop.specs.Going.{Went}
@@ -50,6 +50,19 @@ module _ {calls : List ℕ} {from : ℕ} {p : Piece} (piece : PieceAt calls from
   missed_first : missed_in (lines (drop from calls)) ≡ unheard_line (part calls from p.end) + missed_in (lines (drop p.next calls))
   unfolding missed_in
   missed_first = rw piece.first_line
+
+-- what is in use is so wherever the text is read
+pub held_there : {slots counters items : List ℕ} {st : State} {from : ℕ} → Held slots counters items st
+    → Held slots counters items (record st { from = from })
+held_there k =
+    record {
+      all_slots = k.all_slots;
+      all_counters = k.all_counters;
+      all_items = k.all_items;
+      slots_in = k.slots_in;
+      counters_in = k.counters_in;
+      items_in = k.items_in;
+    }
 
 module _ {e : Bool} {calls slots counters items out slots' counters' items' out' : List ℕ} {st r : State} where
   pub goes_on : {p : Piece} → PieceAt calls st.from p → st.at + longest_line ≤ length out → st.number ≤ st.from → st.missed ≤ st.number
@@ -86,3 +99,44 @@ module _ {e : Bool} {calls slots counters items out slots' counters' items' out'
             ∙ ap (λ (l : List ℕ). take st.at out ++ l) (sym (answered_first piece e st.number w));
         missed = omega (arith, a.missed, missed_first piece, ap (λ (k : ℕ). missed_in (lines (drop k calls))) a.same_from);
       }
+
+  -- lines were answered, and then more: so all of these were answered
+  pub went_more : {slots'' counters'' items'' out'' : List ℕ} {t : State} → Went e calls slots counters items out st slots' counters' items' out' r
+      → Went e calls slots' counters' items' out' r slots'' counters'' items'' out'' t → Went e calls slots counters items out st slots'' counters'' items'' out'' t
+  went_more a b =
+      record {
+        held = b.held;
+        inside = b.inside;
+        counted = b.counted;
+        seldom = b.seldom;
+        onward = omega (arith, a.onward, b.onward);
+        forward = omega (arith, a.forward, b.forward);
+        few = omega (arith, a.few, b.few);
+        long = b.long ∙ a.long;
+        fits = b.fits;
+        answered = b.answered ∙ a.answered;
+        missed = b.missed ∙ a.missed;
+      }
+
+-- no line yet: in an empty portion all is as it was
+pub went_none : (e : Bool) {calls slots counters items : List ℕ} {st : State} (out : List ℕ) → Held slots counters items st → st.from < length calls
+    → st.number ≤ st.from → st.missed ≤ st.number → st.at ≡ 0 → Went e calls slots counters items out st slots counters items out st
+went_none e out k h few seldom z =
+    record {
+      held = k;
+      inside = omega arith;
+      counted = few;
+      seldom = seldom;
+      onward = omega arith;
+      forward = omega arith;
+      few = omega arith;
+      long = refl;
+      fits = omega arith;
+      answered = refl;
+      missed = refl;
+    }
+
+-- a portion that began empty is full: so at least one line was answered
+module _ {e : Bool} {calls slots counters items out slots' counters' items' out' : List ℕ} {st r : State} (w : Went e calls slots counters items out st slots' counters' items' out' r) where
+  pub full_forward : st.at ≡ 0 → longest_line ≤ length out → length out' - r.at < longest_line → st.from < r.from
+  full_forward z h l = omega (arith, w.few, w.forward, w.long)

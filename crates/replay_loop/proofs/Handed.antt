@@ -1,18 +1,18 @@
 -- Portion by portion: what has gone out and what is still to come are the answers. Assumes nothing.
-use Rattle.std.specs.Prelude.{Ok}
+use Rattle.std.specs.Prelude.{Ok, Err}
 use Prim.Native.Nat.{ℕ, ◌+◌, ◌*◌, ◌≤◌}
 use native.Mathlib.Omega.{arith}
 use mathlib.Core.Path.{◌≡◌, refl, sym, ap, ◌∙◌}
 use mathlib.Core.Bool.{Bool}
 use mathlib.Core.List.{List, [], ◌++◌, append_assoc, append-nil}
 use lib.ListN.{length, take, drop, drop_of_length-le, length-append}
-use lib.Seq.{length-take-le}
+use lib.Seq.{take_at, drop_at, length-take-le}
 use Rattle.replay_words.specs.Words.{lines, mark_length, without_mark}
 use Rattle.replay_rows.specs.World.{longest_line}
 use Rattle.replay_rows.specs.Replayed.{answers, missed, missed_in, replayed}
 use Rattle.replay_steps.specs.Standing.{in_use, Held}
 use Rattle.replay_steps.specs.declared.State.{State}
-use Rattle.replay_loop.specs.Going.{coming, to_miss, Ended, Went}
+use Rattle.replay_loop.specs.Going.{coming, to_miss, Ended, Next, Went}
 use Rattle.replay_loop.specs.declared.Replayed.{Replayed}
 
 pub record Handed (e : Bool) (calls slots counters items records out : List ℕ) (st : State) (written : ℕ) : Type 0 where
@@ -57,6 +57,22 @@ module _ {e : Bool} {calls slots counters items records out slots' counters' ite
       append_assoc h.gone (take full.at out') (coming e calls slots' counters' items' full)
       ∙ ap (λ (l : List ℕ). h.gone ++ l) (w.answered ∙ ap (λ (k : ℕ). take k out ++ coming e calls slots counters items st) h.empty)
       ∙ h.ahead
+
+  next_bytes : take full.at out' ≡ take (length (take full.at out')) (drop written (answers e calls))
+  next_bytes =
+      let rest : drop written (answers e calls) ≡ take full.at out' ++ coming e calls slots' counters' items' full =
+      ap (drop written) (sym split ∙ append_assoc h.gone (take full.at out') (coming e calls slots' counters' items' full))
+      ∙ drop_at h.gone (take full.at out' ++ coming e calls slots' counters' items' full) written (sym h.count) in
+      sym
+      (ap (take (length (take full.at out'))) rest
+      ∙ take_at (take full.at out') (coming e calls slots' counters' items' full) (length (take full.at out')) refl)
+
+  next_few : length calls ≤ 2097152 → written + length (take full.at out') ≤ 618475290624
+  next_few l = omega (arith, length-take-le full.at out' w.fits, w.few, h.few, h.empty, w.counted, w.inside)
+
+  -- so the portion is the next bytes of the answers
+  pub next_portion : length calls ≤ 2097152 → Next e calls written (take full.at out')
+  next_portion l = record { bytes = next_bytes; few = next_few l }
 
   -- it is handed over, and the next begins
   pub handed_more : {r : ℕ} {records' : List ℕ} → length records' ≡ length records → r ≡ written + length (take full.at out')
@@ -107,3 +123,7 @@ handed_all {e} {calls} {slots} {counters} {items} {records} {out} {st} h l b m =
       all = b ∙ h.count ∙ ap length (sym (append-nil h.gone) ∙ ap (λ (l : List ℕ). h.gone ++ l) (sym none) ∙ h.ahead);
       counted = omega (arith, m, h.to_come, no_more);
     }
+
+-- a portion could not be written: of the answers nothing is said
+pub handed_in_part : {E : Type 0} {e : Bool} {calls : List ℕ} {why : E} → Ended e calls (Err why)
+handed_in_part = record { all = tt; counted = tt }

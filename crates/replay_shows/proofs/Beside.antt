@@ -3,16 +3,24 @@ use Prim.Native.Nat.{ℕ, ◌+◌, ◌*◌, ◌≤◌, min}
 use native.Mathlib.Omega.{arith}
 use mathlib.Core.Path.{◌≡◌, refl, sym}
 use mathlib.Core.List.{List}
-use lib.ListN.{length, take}
+use lib.ListN.{length, get_or, take}
 use lib.Seq.{length-take-le}
 use Rattle.model.specs.Memory.{Mem}
 use Rattle.model.specs.Shape.{four}
 use Rattle.model.specs.Calling.{write_list}
 use Rattle.model.specs.Lent.{lent_call}
+use Rattle.plain.specs.Plain.{plain_read}
 use Rattle.buffer.specs.Put.{Put}
 use Rattle.replay_answers.specs.Text.{text}
 use Rattle.replay_rows.specs.World.{Replied, world, longest}
-use Rattle.replay_rows.specs.Meaning.{lists}
+use Rattle.replay_rows.specs.Meaning.{Arm, lists, meaning}
+
+-- the row of the plain engine: where its line stands in the buffer, the row is answered, and the table and the hand are left as they were
+pub as_plain : {m : Mem} {at : ℕ} {before after : List ℕ} {row : ℕ} (h n : ℕ) (xs : List ℕ) {next : ℕ} → row ≡ 15
+    → Put (text (plain_read m.items (get_or xs 0 0) (get_or xs 1 0) (get_or xs 2 0))) at before after next → next ≤ at + 384
+    → Arm row n xs m h m at before after next
+unfolding meaning
+as_plain h n xs e p l = rw e (record { put = p; near = omega arith; left = refl; hand = refl })
 
 -- the list: the bytes lent for it are there, and its lines have room
 pub list_bytes : (size : ℕ) {n : ℕ} (run : List ℕ) → length run ≡ 81920 → n ≡ min size 81920 → n ≡ length (take n run)

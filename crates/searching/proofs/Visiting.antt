@@ -37,6 +37,17 @@ module _ (n m : ℕ) (T : List ℕ) (b c : ℕ) where
   pub visit_none : {queue : List ℕ} {v : ℕ} → Visiting queue v → 682 ≤ v → FoundIs four n m T b c (Err NoRoom)
   visit_none st h = stops_nowhere st.behind (omega (arith, st.upto, visits_long four n T b c))
 
+-- the visit to position v, whose bucket is x
+pub record AtVisit (n m : ℕ) (T : List ℕ) (b c : ℕ) (queue : List ℕ) (v x : ℕ) : Type 0 where
+  pub so_far : Visiting n m T b c queue v
+  pub early : v < 682
+  pub bucket : x ≡ get_or queue v 0
+
+-- where the search is at a position of the list, it visits the bucket that the queue has there
+pub at_visit : {n m : ℕ} {T : List ℕ} {b c : ℕ} {queue : List ℕ} {v x : ℕ} → Visiting n m T b c queue v → v < 682
+    → x ≡ get_or queue v 0 → AtVisit n m T b c queue v x
+at_visit so_far early bucket = record { so_far = so_far; early = early; bucket = bucket }
+
 -- the visit to position v
 module _ {n m : ℕ} {T : List ℕ} {b c : ℕ} {queue : List ℕ} {v : ℕ} (st : Visiting n m T b c queue v) (early : v < 682) where
   -- its bucket

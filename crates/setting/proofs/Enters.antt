@@ -10,7 +10,7 @@ use Rattle.model.specs.Memory.{Mem, mem, place}
 use Rattle.model.specs.Shape.{Ways, shape, shape_of}
 use Rattle.model.specs.Stores.{enter, stores, stores_of, update}
 use Rattle.model.specs.Moves.{as_moves}
-use Rattle.model.specs.Answers.{refused, stored}
+use Rattle.model.specs.Answers.{Answer, refused, stored}
 use Rattle.model.specs.Age.{late}
 use Rattle.model.specs.Calls.{move_blocks, refuse, set_held, updated}
 use Rattle.model.specs.Promised.{Does}
@@ -43,10 +43,16 @@ module _ (c w : ℕ) (g : Grant) (i : List ℕ) {b : Bool} (e : b ≡ late (get_
   unfolding place
   held_late q s = does_refuse (ap (λ b. choose b (refuse 11) (updated c (w % 65536) g)) (sym e ∙ q))
 
-  pub held_timely : {k l : ℕ} {n n' i' : List ℕ} → b ≡ false
+  -- timely: what the update of its place does and answers, the set does and answers
+  pub held_timely : {k : ℕ} {n n' i' : List ℕ} {a : Answer} → b ≡ false
+      → ((s : List ℕ) → Does (updated c (place w) g) k (mem s n i) (mem s n' i') a)
+      → (s : List ℕ) → Does (set_held i c (place w) g) k (mem s n i) (mem s n' i') a
+  unfolding place
+  held_timely q d s = does_as (sym (ap (λ b. choose b (refuse 11) (updated c (w % 65536) g)) (sym e ∙ q))) (d s)
+
+  -- so where the stores of an update were made
+  pub held_updated : {k l : ℕ} {n n' i' : List ℕ} → b ≡ false
       → ((s : List ℕ) → Made (stores_of (update c (w % 65536) g.permission g.issued)) k (mem s n i) (mem s n' i') l)
       → (s : List ℕ) → Does (set_held i c (place w) g) k (mem s n i) (mem s n' i') (stored 0 0)
   unfolding place
-  held_timely {l = l} q d s =
-      does_as (sym (ap (λ b. choose b (refuse 11) (updated c (w % 65536) g)) (sym e ∙ q)))
-      (does_one {l = l} (stored 0 0) (update c (w % 65536) g.permission g.issued) refl (d s))
+  held_updated {l = l} q d = held_timely q (λ s. does_one {l = l} (stored 0 0) (update c (w % 65536) g.permission g.issued) refl (d s))
