@@ -1,10 +1,10 @@
 // The age of a permission: what is said of a stamp at a minute, under a limit, and how long is left; and the minutes that a set brings.
 #![tactic(auto)]
 
-ghost use Rattle.std.specs.Prelude.{◌≡◌, ◌≤◌, false, Ok};
+ghost use Rattle.std.specs.Prelude.{◌≡◌, ◌≤◌, false, ℕ, Ok};
 ghost use Rattle.model.specs.Age.{verdict, left_of, bad_time, bad_grant, late};
 ghost use Rattle.model.specs.Answers.{says_fresh};
-ghost use Rattle.model.specs.Said.{said_reading};
+ghost use Rattle.model.specs.Said.{read_as, said_reading, said_with};
 
 use model::{Grant, Reading};
 
@@ -59,11 +59,11 @@ pub fn judged(permission: u64, stamp: u64, limit: u64, minute: u64) -> Reading
     Reading::Old { left }
 }
 
-// The answer is fresh: serve marks by what it says.
-pub fn is_fresh(told: Reading) -> bool
-    ensures { result ≡ says_fresh (said_reading (Ok told)) }
+// The answer is fresh, which no refusal is, whatever its number: serve marks by what it says.
+pub fn is_fresh<E: Copy>(told: Result<Reading, E>) -> bool
+    ensures { (number : E → ℕ) → result ≡ says_fresh (said_with number read_as told) }
 {
-    matches!(told, Reading::Fresh { .. })
+    matches!(told, Ok(Reading::Fresh { .. }))
 }
 
 // The minutes of a set are out of range: now is no minute, or the minute of issue is later. One test tells both, for behind the last

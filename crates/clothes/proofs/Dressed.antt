@@ -10,7 +10,7 @@ use Rattle.model.specs.Shape.{Ways}
 use Rattle.model.specs.Moves.{four_records}
 use Rattle.model.specs.Answers.{Answer, is, moves_told, value}
 use Rattle.model.specs.Calling.{Call}
-use Rattle.model.specs.Said.{plan_of, refusal_of, said_plan}
+use Rattle.model.specs.Said.{plan_of, refusal_number, refusal_of, said_plan}
 use Rattle.model.specs.Promised.{CutAs, WholeAs}
 use Rattle.clothes.specs.Clothes.{number, plan_clothes, plan_dressed}
 use Rattle.clothes.specs.Dressed.{CutIn, WholeIn}
@@ -32,11 +32,11 @@ plan_told b a =
     (Err (refusal_of (number a)))
 
 -- what the code's plan says in its clothes is the answer in its own
-pub told_plan : (a : Answer) {b : Result Plan Refusal} {r : BoughladderPlan} → r ≡ plan_dressed b → b ≡ plan_of a → said_plan (plan_of a) ≡ a
+pub told_plan : (a : Answer) {b : Result Plan Refusal} {r : BoughladderPlan} → r ≡ plan_dressed refusal_number b → b ≡ plan_of a → said_plan (plan_of a) ≡ a
     → r ≡ plan_clothes a
-told_plan a e h says = e ∙ ap plan_dressed h ∙ as_told (is 10 a) says
+told_plan a e h says = e ∙ ap (plan_dressed refusal_number) h ∙ as_told (is 10 a) says
   where
-    as_told : (b : Bool) → said_plan (plan_told b a) ≡ a → plan_dressed (plan_told b a) ≡ plan_clothes a
+    as_told : (b : Bool) → said_plan (plan_told b a) ≡ a → plan_dressed refusal_number (plan_told b a) ≡ plan_clothes a
     as_told true q = ap (λ n. record { refusal = n; count = length (moves_told a); place = value a 1; slot = value a 2; moves = four_records (moves_told a) }) (ap number q)
     as_told false q = ap plan_clothes q
 

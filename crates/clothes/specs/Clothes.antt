@@ -3,8 +3,6 @@ use Rattle.std.specs.Prelude.{ℕ, [], length, ℤ, pos, unwrap_or, Result, Ok, 
 use Rattle.model.specs.Choice.{choose}
 use Rattle.model.specs.Moves.{four_records}
 use Rattle.model.specs.Answers.{Answer, hand_back, is, moves_told, paper, value}
-use Rattle.model.specs.Said.{refusal_number}
-use Rattle.model.specs.declared.Refusal.{Refusal}
 use Rattle.model.specs.declared.Plan.{Plan}
 use Rattle.judgement.specs.Verdict.{Verdict, sound, broken}
 use Rattle.clothes.specs.declared.BoughladderReading.{BoughladderReading}
@@ -38,7 +36,7 @@ finding_clothes a = record { refusal = number a; kind = value a 0; place = value
 abbrev pub setting_clothes : Answer → BoughladderSetting
 setting_clothes a = record { refusal = number a; visits = value a 1; moves = value a 2 }
 
--- plan; and what the code's plan says, in its clothes
+-- plan; and what the code's plan says, in its clothes, by the number of what refuses
 abbrev pub plan_clothes : Answer → BoughladderPlan
 plan_clothes a =
     record {
@@ -49,9 +47,9 @@ plan_clothes a =
       moves = four_records (moves_told a);
     }
 
-abbrev pub plan_dressed : Result Plan Refusal → BoughladderPlan
-plan_dressed (Ok b) = record { refusal = 0; count = b.count; place = b.place; slot = b.slot; moves = b.moves }
-plan_dressed (Err r) = record { refusal = refusal_number r; count = 0; place = 0; slot = 0; moves = four_records [] }
+abbrev pub plan_dressed : {E : Type 0} → (E → ℕ) → Result Plan E → BoughladderPlan
+plan_dressed n (Ok b) = record { refusal = 0; count = b.count; place = b.place; slot = b.slot; moves = b.moves }
+plan_dressed n (Err e) = record { refusal = n e; count = 0; place = 0; slot = 0; moves = four_records [] }
 
 -- evict, with the hand h that comes back; and with the hand that was passed in
 abbrev pub turned_clothes : ℕ → Answer → BoughladderEvicting
@@ -63,6 +61,11 @@ evicting_clothes hand a = turned_clothes (hand_back hand a) a
 -- the list
 abbrev pub listing_clothes : Answer → BoughladderListing
 listing_clothes a = record { refusal = number a; count = value a 1 }
+
+-- a no by its condition's number
+abbrev pub numbered : Result Unit (ℕ × ℕ) → Verdict
+numbered (Ok _) = sound
+numbered (Err (c, i)) = broken c i
 
 -- judge: 0 is a yes
 abbrev pub judgement_clothes : Verdict → BoughladderJudgement

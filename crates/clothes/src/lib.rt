@@ -2,13 +2,14 @@
 // refusals, kinds and conditions.
 #![tactic(auto)]
 
-ghost use Rattle.std.specs.Prelude.{◌≡◌, List, ℕ};
-ghost use Rattle.model.specs.Said.{said_reading, said_finding, said_setting, said_deleting, said_evicting, said_listing, said_starting, said_move, said_entry};
+ghost use Rattle.std.specs.Prelude.{◌≡◌, List, ℕ, ◌*◌, ◌<◌, take};
+ghost use Rattle.model.specs.Answers.{deleted, entry_made, evicted, listed, move_made, started, stored};
+ghost use Rattle.model.specs.Said.{said_with, read_as, found_at, said_reading};
 ghost use Rattle.judgement.specs.Said.{said};
-ghost use Rattle.clothes.specs.Clothes.{number, reading_clothes, finding_clothes, setting_clothes, plan_dressed, turned_clothes, listing_clothes, judgement_clothes};
+ghost use Rattle.clothes.specs.Clothes.{number, reading_clothes, finding_clothes, setting_clothes, plan_dressed, turned_clothes, listing_clothes, numbered, judgement_clothes};
 
 use judgement::Broken;
-use model::{Evicted, MoveRecord, NO_MOVE, Plan, Reading, Refusal, Stored};
+use model::{Evicted, MoveRecord, NO_MOVE, Numbered, Plan, Reading, Refusal, Stored};
 
 // The replies. In each, `refusal` is document 01's number, 0 for success; what a call does not tell is 0.
 
@@ -75,42 +76,68 @@ pub struct BoughladderJudgement {
     pub at: usize,
 }
 
+// What a reply tells as its refusal, in 32 bits: a refusal's number, or one that the caller has.
+pub trait ReplyNumber: Numbered {
+    fn reply_number(self) -> u32
+        ensures { result ≡ Self.number self };
+}
+
+impl ReplyNumber for Refusal {
+    fn reply_number(self) -> u32 {
+        u32::from(self)
+    }
+}
+
+impl ReplyNumber for u32 {
+    fn reply_number(self) -> u32 {
+        self
+    }
+}
+
+// Requires a number that fits 16 bits; document 01 has none larger.
+pub fn dress_reading<E: ReplyNumber>(told: Result<Reading, E>) -> BoughladderReading
+    requires { number (said_with E.number read_as told) < 65536 }
+    ensures { result ≡ reading_clothes (said_with E.number read_as told) }
+{
+    let nothing = BoughladderReading {
+        refusal: 0,
+        kind: 0,
+        permission: 0,
+        left: 0,
+    };
+    match told {
+        Ok(Reading::Absent) => nothing,
+        Ok(Reading::Fresh { permission, left }) => BoughladderReading {
+            kind: 1,
+            permission,
+            left,
+            ..nothing
+        },
+        Ok(Reading::Old { left }) => BoughladderReading {
+            kind: 2,
+            left,
+            ..nothing
+        },
+        Ok(Reading::Ahead) => BoughladderReading { kind: 3, ..nothing },
+        Err(refusal) => BoughladderReading {
+            refusal: refusal.reply_number() as u16,
+            ..nothing
+        },
+    }
+}
+
 impl From<Result<Reading, Refusal>> for BoughladderReading {
     ghost from_gives = { λ told reply. reply ≡ reading_clothes (said_reading told) };
 
     fn from(told: Result<Reading, Refusal>) -> BoughladderReading {
-        let nothing = BoughladderReading {
-            refusal: 0,
-            kind: 0,
-            permission: 0,
-            left: 0,
-        };
-        match told {
-            Ok(Reading::Absent) => nothing,
-            Ok(Reading::Fresh { permission, left }) => BoughladderReading {
-                kind: 1,
-                permission,
-                left,
-                ..nothing
-            },
-            Ok(Reading::Old { left }) => BoughladderReading {
-                kind: 2,
-                left,
-                ..nothing
-            },
-            Ok(Reading::Ahead) => BoughladderReading { kind: 3, ..nothing },
-            Err(refusal) => BoughladderReading {
-                refusal: refusal as u16,
-                ..nothing
-            },
-        }
+        dress_reading(told)
     }
 }
 
-impl From<Result<Option<usize>, Refusal>> for BoughladderFinding {
-    ghost from_gives = { λ told reply. reply ≡ finding_clothes (said_finding told) };
+impl<E: ReplyNumber> From<Result<Option<usize>, E>> for BoughladderFinding {
+    ghost from_gives = { λ told reply. reply ≡ finding_clothes (said_with E.number found_at told) };
 
-    fn from(told: Result<Option<usize>, Refusal>) -> BoughladderFinding {
+    fn from(told: Result<Option<usize>, E>) -> BoughladderFinding {
         match told {
             Ok(None) => BoughladderFinding {
                 refusal: 0,
@@ -123,7 +150,7 @@ impl From<Result<Option<usize>, Refusal>> for BoughladderFinding {
                 place,
             },
             Err(refusal) => BoughladderFinding {
-                refusal: refusal.into(),
+                refusal: refusal.reply_number(),
                 kind: 0,
                 place: 0,
             },
@@ -131,10 +158,10 @@ impl From<Result<Option<usize>, Refusal>> for BoughladderFinding {
     }
 }
 
-impl From<Result<Stored, Refusal>> for BoughladderSetting {
-    ghost from_gives = { λ told reply. reply ≡ setting_clothes (said_setting told) };
+impl<E: ReplyNumber> From<Result<Stored, E>> for BoughladderSetting {
+    ghost from_gives = { λ told reply. reply ≡ setting_clothes (said_with E.number (λ b. stored b.visits b.moves) told) };
 
-    fn from(told: Result<Stored, Refusal>) -> BoughladderSetting {
+    fn from(told: Result<Stored, E>) -> BoughladderSetting {
         match told {
             Ok(Stored { visits, moves }) => BoughladderSetting {
                 refusal: 0,
@@ -142,7 +169,7 @@ impl From<Result<Stored, Refusal>> for BoughladderSetting {
                 moves,
             },
             Err(refusal) => BoughladderSetting {
-                refusal: refusal.into(),
+                refusal: refusal.reply_number(),
                 visits: 0,
                 moves: 0,
             },
@@ -150,10 +177,10 @@ impl From<Result<Stored, Refusal>> for BoughladderSetting {
     }
 }
 
-impl From<Result<Plan, Refusal>> for BoughladderPlan {
-    ghost from_gives = { λ told reply. reply ≡ plan_dressed told };
+impl<E: ReplyNumber> From<Result<Plan, E>> for BoughladderPlan {
+    ghost from_gives = { λ told reply. reply ≡ plan_dressed E.number told };
 
-    fn from(told: Result<Plan, Refusal>) -> BoughladderPlan {
+    fn from(told: Result<Plan, E>) -> BoughladderPlan {
         match told {
             Ok(plan) => {
                 let moves = plan.moves;
@@ -166,7 +193,7 @@ impl From<Result<Plan, Refusal>> for BoughladderPlan {
                 }
             }
             Err(no_plan) => BoughladderPlan {
-                refusal: no_plan.into(),
+                refusal: no_plan.reply_number(),
                 count: 0,
                 place: 0,
                 slot: 0,
@@ -177,21 +204,21 @@ impl From<Result<Plan, Refusal>> for BoughladderPlan {
 }
 
 // A call that tells no more than that it was done: a step, be it a move or the final store, delete, fresh.
-pub fn dress_done(told: Result<(), Refusal>) -> u32
-    ensures moved { result ≡ number (said_move told) }
-    ensures entered { result ≡ number (said_entry told) }
-    ensures deleted { result ≡ number (said_deleting told) }
-    ensures started { result ≡ number (said_starting told) }
+pub fn dress_done<E: ReplyNumber>(told: Result<(), E>) -> u32
+    ensures moved { result ≡ number (said_with E.number (λ _. move_made) told) }
+    ensures entered { result ≡ number (said_with E.number (λ _. entry_made) told) }
+    ensures deleted { result ≡ number (said_with E.number (λ _. deleted) told) }
+    ensures started { result ≡ number (said_with E.number (λ _. started) told) }
 {
     match told {
         Ok(()) => 0,
-        Err(refusal) => refusal.into(),
+        Err(refusal) => refusal.reply_number(),
     }
 }
 
 // With the hand that came back.
-pub fn dress_evicting(told: Result<Evicted, Refusal>, hand: usize) -> BoughladderEvicting
-    ensures { result ≡ turned_clothes hand (said_evicting told hand) }
+pub fn dress_evicting<E: ReplyNumber>(told: Result<Evicted, E>, hand: usize) -> BoughladderEvicting
+    ensures { result ≡ turned_clothes hand (said_with E.number (λ b. evicted b.victim b.looked hand) told) }
 {
     match told {
         Ok(Evicted { victim, looked }) => BoughladderEvicting {
@@ -201,7 +228,7 @@ pub fn dress_evicting(told: Result<Evicted, Refusal>, hand: usize) -> Boughladde
             hand,
         },
         Err(refusal) => BoughladderEvicting {
-            refusal: refusal.into(),
+            refusal: refusal.reply_number(),
             victim: 0,
             looked: 0,
             hand,
@@ -210,16 +237,30 @@ pub fn dress_evicting(told: Result<Evicted, Refusal>, hand: usize) -> Boughladde
 }
 
 // Whatever the buffer holds.
-impl From<Result<usize, Refusal>> for BoughladderListing {
-    ghost from_gives = { λ told reply. (buffer : List ℕ) → reply ≡ listing_clothes (said_listing told buffer) };
+impl<E: ReplyNumber> From<Result<usize, E>> for BoughladderListing {
+    ghost from_gives = { λ told reply. (buffer : List ℕ) → reply ≡ listing_clothes (said_with E.number (λ n. listed n (take (20 * n) buffer)) told) };
 
-    fn from(told: Result<usize, Refusal>) -> BoughladderListing {
+    fn from(told: Result<usize, E>) -> BoughladderListing {
         match told {
             Ok(count) => BoughladderListing { refusal: 0, count },
             Err(refusal) => BoughladderListing {
-                refusal: refusal.into(),
+                refusal: refusal.reply_number(),
                 count: 0,
             },
+        }
+    }
+}
+
+impl From<Result<(), (u32, usize)>> for BoughladderJudgement {
+    ghost from_gives = { λ told reply. reply ≡ judgement_clothes (numbered told) };
+
+    fn from(told: Result<(), (u32, usize)>) -> BoughladderJudgement {
+        match told {
+            Ok(()) => BoughladderJudgement {
+                condition: 0,
+                at: 0,
+            },
+            Err((condition, at)) => BoughladderJudgement { condition, at },
         }
     }
 }
@@ -228,15 +269,6 @@ impl From<Result<(), Broken>> for BoughladderJudgement {
     ghost from_gives = { λ told reply. reply ≡ judgement_clothes (said told) };
 
     fn from(told: Result<(), Broken>) -> BoughladderJudgement {
-        match told {
-            Ok(()) => BoughladderJudgement {
-                condition: 0,
-                at: 0,
-            },
-            Err(Broken { condition, at }) => BoughladderJudgement {
-                condition: condition.into(),
-                at,
-            },
-        }
+        told.map_err(|no| (u32::from(no.condition), no.at)).into()
     }
 }

@@ -74,9 +74,9 @@ pub fn serve(
     };
     match looking::look_up(&table, animal).hit? {
         Some(word) => {
-            let told = judged_at(items, word % 65536, limit, minute);
+            let told = Ok(judged_at(items, word % 65536, limit, minute));
             mark_recent(items, word % 65536, ageing::is_fresh(told));
-            Ok(told)
+            told
         }
         None => Ok(Reading::Absent),
     }
