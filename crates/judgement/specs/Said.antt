@@ -16,6 +16,17 @@ condition_number condition.Doubled = 6
 condition_number condition.Wide = 7
 condition_number condition.Unswept = 8
 
+-- a verdict, by the condition's number of what broke it and the number that breaks it
+abbrev pub said_with : {B : Type 0} → (B → ℕ) → (B → ℕ) → Result Unit B → Verdict
+said_with c i (Ok _) = sound
+said_with c i (Err b) = broken (c b) (i b)
+
+-- the two numbers of the code's own no
+abbrev pub condition_told : Broken → ℕ
+condition_told b = condition_number b.condition
+
+abbrev pub breaker_told : Broken → ℕ
+breaker_told b = b.at
+
 abbrev pub said : Result Unit Broken → Verdict
-said (Ok _) = sound
-said (Err b) = broken (condition_number b.condition) b.at
+said r = said_with condition_told breaker_told r

@@ -62,8 +62,11 @@ abbrev pub said_finding : Result (Option ℕ) Refusal → Answer
 said_finding r = said_by found_at r
 
 -- set
+abbrev pub stored_as : Stored → Answer
+stored_as b = stored b.visits b.moves
+
 abbrev pub said_setting : Result Stored Refusal → Answer
-said_setting r = said_by (λ (b : Stored). stored b.visits b.moves) r
+said_setting r = said_by stored_as r
 
 -- plan, from the answer to the code's
 abbrev pub plan_of : Answer → Result Plan Refusal
@@ -79,8 +82,11 @@ plan_of a =
     (Err (refusal_of (paper a).number))
 
 -- and back: what such a plan says
+abbrev pub planned_as : Plan → Answer
+planned_as b = planned (take b.count b.moves) b.place b.slot
+
 abbrev pub said_plan : Result Plan Refusal → Answer
-said_plan r = said_by (λ (b : Plan). planned (take b.count b.moves) b.place b.slot) r
+said_plan r = said_by planned_as r
 
 -- a step: a move, or the final store
 abbrev pub said_move : Result Unit Refusal → Answer
@@ -94,12 +100,18 @@ abbrev pub said_deleting : Result Unit Refusal → Answer
 said_deleting r = said_by (λ _. deleted) r
 
 -- evict, with the hand that came back
+abbrev pub evicted_as : ℕ → Evicted → Answer
+evicted_as h b = evicted b.victim b.looked h
+
 abbrev pub said_evicting : Result Evicted Refusal → ℕ → Answer
-said_evicting r h = said_by (λ (b : Evicted). evicted b.victim b.looked h) r
+said_evicting r h = said_by (evicted_as h) r
 
 -- the list, with the buffer afterwards: 20 bytes a record
+abbrev pub listed_as : List ℕ → ℕ → Answer
+listed_as buffer n = listed n (take (20 * n) buffer)
+
 abbrev pub said_listing : Result ℕ Refusal → List ℕ → Answer
-said_listing r buffer = said_by (λ (n : ℕ). listed n (take (20 * n) buffer)) r
+said_listing r buffer = said_by (listed_as buffer) r
 
 -- fresh
 abbrev pub said_starting : Result Unit Refusal → Answer

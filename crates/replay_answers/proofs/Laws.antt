@@ -13,10 +13,9 @@ use mir.ValLaws.{to_z-of_z}
 use Rattle.model.specs.Memory.{Mem}
 use Rattle.model.specs.Moves.{no_move}
 use Rattle.model.specs.Answers.{planned, record_numbers}
-use Rattle.model.specs.Said.{said_reading}
+use Rattle.model.specs.Said.{read_as, said_with}
 use Rattle.model.specs.declared.Reading.{Reading}
 use Rattle.model.specs.declared.Reading.TheVariants as reading
-use Rattle.model.specs.declared.Refusal.{Refusal}
 use Rattle.model.specs.declared.MoveRecord.{MoveRecord}
 use Rattle.buffer.specs.Put.{Put}
 use Rattle.buffer.proofs.Putting.{put_both}
@@ -59,20 +58,20 @@ module _ {at r : ℕ} {before after : List ℕ} where
   short k words p h = omega (arith, p.next)
 
   -- a reading that tells how long is left, as the code holds the number
-  pub told_fresh : {said : Result Reading Refusal} {told : Reading} {middle : List ℕ} {s v : ℕ} {z : ℤ} → SFits w64 z → said ≡ Ok told → told ≡ reading.Fresh v z
+  pub told_fresh : {E : Type 0} (n : E → ℕ) {said : Result Reading E} {told : Reading} {middle : List ℕ} {s v : ℕ} {z : ℤ} → SFits w64 z → said ≡ Ok told → told ≡ reading.Fresh v z
       → Put (numbered (bytes "fresh") v) at before middle s → Put (signed_line [] (to_z w64 (of_z w64 z))) s middle after r
-      → Put (text (said_reading said)) at before after r
-  told_fresh {v = v} {z} f e d p q = rw (e, d, signed_behind (numbered (bytes "fresh") v) z) (put_both p (rw (to_z-of_z w64 z f) at q))
+      → Put (text (said_with n read_as said)) at before after r
+  told_fresh n {v = v} {z} f e d p q = rw (e, d, signed_behind (numbered (bytes "fresh") v) z) (put_both p (rw (to_z-of_z w64 z f) at q))
 
   -- a plan, as the code holds its numbers
   pub told_numbers : (vs : List MoveRecord) (n p i : ℕ) → length vs ≡ 4 → Put (told (bytes "planned") (take (2 + 3 * n) (p ∷ i ∷ of_four vs))) at before after r
       → Put (text (planned (take n vs) p i)) at before after r
   told_numbers vs n p i l q = let f : 2 + 3 * n ≡ suc (suc (3 * n)) = omega arith in rw (← first_few vs n, ← all_four vs l) (rw f at q)
 
-  pub put_line_number : {first second words : List ℕ} {s t : ℕ} (n y : ℕ) → words ≡ reason y → Put (numbered (bytes "line") n) at before first s
+  pub put_line_number : {first second words : List ℕ} {s t y told : ℕ} (n : ℕ) → told ≡ y → words ≡ reason told → Put (numbered (bytes "line") n) at before first s
       → Put (bytes ": not understood: ") s first second t → Put (line words) t second after r → Put (not_understood n y) at before after r
   unfolding numbered
-  put_line_number n y e p q l = rw (← e) (put_both (put_both p q) l)
+  put_line_number n d e p q l = rw (← d, ← e) (put_both (put_both p q) l)
 
 -- the three runs of a dump
 pub put_runs : {at r s t : ℕ} {before middle next after : List ℕ} (m : Mem) → Put (told (bytes "slots") m.slots) at before middle r

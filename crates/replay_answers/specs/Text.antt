@@ -3,8 +3,6 @@ use Rattle.std.specs.Prelude.{ℕ, Bool, true, false, List, [], ◌∷◌, ◌++
 use Rattle.model.specs.Choice.{choose}
 use Rattle.model.specs.Memory.{Mem}
 use Rattle.model.specs.Answers.{Answer, refused, absent, fresh, old, ahead, stored, deleted, evicted, started, listed, at_place, planned, move_made, entry_made, record_numbers}
-use Rattle.model.specs.Said.{refusal_number}
-use Rattle.model.specs.declared.Refusal.{Refusal}
 use Rattle.judgement.specs.Verdict.{Verdict, sound, broken}
 use Rattle.replay_print.specs.Text.{bytes}
 use Rattle.replay_print.specs.Print.{decimal_of, line, numbered, record_lines, signed_line, told}
@@ -26,10 +24,10 @@ text (planned vs p i) = told (bytes "planned") (p ∷ i ∷ record_numbers vs)
 text move_made = line (bytes "moved")
 text entry_made = line (bytes "entered")
 
--- the line of an answer that is only that something is done, by its word
-abbrev pub done_line : List ℕ → Result Unit Refusal → List ℕ
-done_line word (Ok _) = line word
-done_line word (Err r) = text (refused (refusal_number r))
+-- the line of an answer that is only that something is done, by its word and by the number of what refuses
+abbrev pub done_line : {E : Type 0} → (E → ℕ) → List ℕ → Result Unit E → List ℕ
+done_line n word (Ok _) = line word
+done_line n word (Err e) = text (refused (n e))
 
 -- why a line says nothing that the language has
 unfoldable pub reason : ℕ → List ℕ

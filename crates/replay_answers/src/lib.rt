@@ -5,27 +5,26 @@
 ghost use Rattle.std.specs.Prelude.{◌≡◌, ◌+◌, ◌*◌, ◌≤◌, IfOk, length, take};
 ghost use Rattle.buffer.specs.Put.{Put};
 ghost use Rattle.model.specs.Seen.{seen};
-ghost use Rattle.model.specs.Answers.{listed, planned, refused};
-ghost use Rattle.model.specs.Said.{refusal_number, said_reading, said_setting, said_plan, said_move, said_entry, said_deleting, said_evicting, said_listing, said_starting};
-ghost use Rattle.judgement.specs.Said.{said as said_judgement};
-ghost use Rattle.replay_lines.specs.Reasons.{reason_number};
+ghost use Rattle.model.specs.Answers.{deleted, entry_made, listed, move_made, planned, refused, started};
+ghost use Rattle.model.specs.Said.{said_with, read_as, stored_as, planned_as, evicted_as, listed_as};
+ghost use Rattle.judgement.specs.Said.{said_with as judged_with};
 ghost use Rattle.replay_answers.specs.Text.{text, done_line, reason, not_understood, dump, judged, poke_told};
 
-use judgement::Broken;
-use model::{Evicted, Plan, Reading, Refusal, Stored, Table};
-use replay_lines::Reason;
+use judgement::Breach;
+use model::{Evicted, Numbered, Plan, Reading, Stored, Table};
 
-pub fn put_refused(buffer: &mut [u8], at: usize, refusal: Refusal) -> usize
+// Of what refuses, its number.
+pub fn put_refused<E: Numbered>(buffer: &mut [u8], at: usize, refusal: E) -> usize
     requires { at + 384 ≤ length buffer.old }
-    ensures { Put (text (refused (refusal_number refusal))) at buffer.old buffer.new result × (result ≤ at + 384) }
+    ensures { Put (text (refused (E.number refusal))) at buffer.old buffer.new result × (result ≤ at + 384) }
 {
-    replay_print::put_told(buffer, at, b"refused", &[u32::from(refusal)])
+    replay_print::put_told(buffer, at, b"refused", &[refusal.number()])
 }
 
 // An answer that is only that something is done: its word.
-fn put_done(buffer: &mut [u8], at: usize, word: &[u8], said: Result<(), Refusal>) -> usize
+fn put_done<E: Numbered>(buffer: &mut [u8], at: usize, word: &[u8], said: Result<(), E>) -> usize
     requires { (at + 384 ≤ length buffer.old) × (length word.now ≤ 383) }
-    ensures { Put (done_line word.now said) at buffer.old buffer.new result × (result ≤ at + 384) }
+    ensures { Put (done_line E.number word.now said) at buffer.old buffer.new result × (result ≤ at + 384) }
 {
     match said {
         Ok(()) => replay_print::put_line(buffer, at, word),
@@ -33,9 +32,9 @@ fn put_done(buffer: &mut [u8], at: usize, word: &[u8], said: Result<(), Refusal>
     }
 }
 
-pub fn put_reading(buffer: &mut [u8], at: usize, said: Result<Reading, Refusal>) -> usize
+pub fn put_reading<E: Numbered>(buffer: &mut [u8], at: usize, said: Result<Reading, E>) -> usize
     requires { at + 384 ≤ length buffer.old }
-    ensures { Put (text (said_reading said)) at buffer.old buffer.new result × (result ≤ at + 384) }
+    ensures { Put (text (said_with E.number read_as said)) at buffer.old buffer.new result × (result ≤ at + 384) }
 {
     match said {
         Ok(Reading::Absent) => replay_print::put_line(buffer, at, b"absent"),
@@ -49,9 +48,9 @@ pub fn put_reading(buffer: &mut [u8], at: usize, said: Result<Reading, Refusal>)
     }
 }
 
-pub fn put_setting(buffer: &mut [u8], at: usize, said: Result<Stored, Refusal>) -> usize
+pub fn put_setting<E: Numbered>(buffer: &mut [u8], at: usize, said: Result<Stored, E>) -> usize
     requires { at + 384 ≤ length buffer.old }
-    ensures { Put (text (said_setting said)) at buffer.old buffer.new result × (result ≤ at + 384) }
+    ensures { Put (text (said_with E.number stored_as said)) at buffer.old buffer.new result × (result ≤ at + 384) }
 {
     match said {
         Ok(Stored { visits, moves }) => {
@@ -88,9 +87,9 @@ fn put_planned(buffer: &mut [u8], at: usize, plan: Plan) -> usize
     replay_print::put_told(buffer, at, b"planned", &numbers[..end])
 }
 
-pub fn put_plan(buffer: &mut [u8], at: usize, said: Result<Plan, Refusal>) -> usize
+pub fn put_plan<E: Numbered>(buffer: &mut [u8], at: usize, said: Result<Plan, E>) -> usize
     requires { (at + 384 ≤ length buffer.old) × IfOk said (λ plan. plan.count ≤ 4) }
-    ensures { Put (text (said_plan said)) at buffer.old buffer.new result × (result ≤ at + 384) }
+    ensures { Put (text (said_with E.number planned_as said)) at buffer.old buffer.new result × (result ≤ at + 384) }
 {
     match said {
         Ok(plan) => put_planned(buffer, at, plan),
@@ -99,37 +98,37 @@ pub fn put_plan(buffer: &mut [u8], at: usize, said: Result<Plan, Refusal>) -> us
 }
 
 // One whole move.
-pub fn put_moved(buffer: &mut [u8], at: usize, said: Result<(), Refusal>) -> usize
+pub fn put_moved<E: Numbered>(buffer: &mut [u8], at: usize, said: Result<(), E>) -> usize
     requires { at + 384 ≤ length buffer.old }
-    ensures { Put (text (said_move said)) at buffer.old buffer.new result × (result ≤ at + 384) }
+    ensures { Put (text (said_with E.number (λ _. move_made) said)) at buffer.old buffer.new result × (result ≤ at + 384) }
 {
     put_done(buffer, at, b"moved", said)
 }
 
 // The final store.
-pub fn put_entered(buffer: &mut [u8], at: usize, said: Result<(), Refusal>) -> usize
+pub fn put_entered<E: Numbered>(buffer: &mut [u8], at: usize, said: Result<(), E>) -> usize
     requires { at + 384 ≤ length buffer.old }
-    ensures { Put (text (said_entry said)) at buffer.old buffer.new result × (result ≤ at + 384) }
+    ensures { Put (text (said_with E.number (λ _. entry_made) said)) at buffer.old buffer.new result × (result ≤ at + 384) }
 {
     put_done(buffer, at, b"entered", said)
 }
 
-pub fn put_deleting(buffer: &mut [u8], at: usize, said: Result<(), Refusal>) -> usize
+pub fn put_deleting<E: Numbered>(buffer: &mut [u8], at: usize, said: Result<(), E>) -> usize
     requires { at + 384 ≤ length buffer.old }
-    ensures { Put (text (said_deleting said)) at buffer.old buffer.new result × (result ≤ at + 384) }
+    ensures { Put (text (said_with E.number (λ _. deleted) said)) at buffer.old buffer.new result × (result ≤ at + 384) }
 {
     put_done(buffer, at, b"deleted", said)
 }
 
 // The hand is the one that came back.
-pub fn put_evicting(
+pub fn put_evicting<E: Numbered>(
     buffer: &mut [u8],
     at: usize,
-    said: Result<Evicted, Refusal>,
+    said: Result<Evicted, E>,
     hand: u64,
 ) -> usize
     requires { at + 384 ≤ length buffer.old }
-    ensures { Put (text (said_evicting said hand)) at buffer.old buffer.new result × (result ≤ at + 384) }
+    ensures { Put (text (said_with E.number (evicted_as hand) said)) at buffer.old buffer.new result × (result ≤ at + 384) }
 {
     match said {
         Ok(Evicted { victim, looked }) => {
@@ -140,9 +139,9 @@ pub fn put_evicting(
     }
 }
 
-pub fn put_starting(buffer: &mut [u8], at: usize, said: Result<(), Refusal>) -> usize
+pub fn put_starting<E: Numbered>(buffer: &mut [u8], at: usize, said: Result<(), E>) -> usize
     requires { at + 384 ≤ length buffer.old }
-    ensures { Put (text (said_starting said)) at buffer.old buffer.new result × (result ≤ at + 384) }
+    ensures { Put (text (said_with E.number (λ _. started) said)) at buffer.old buffer.new result × (result ≤ at + 384) }
 {
     put_done(buffer, at, b"fresh", said)
 }
@@ -161,15 +160,15 @@ fn put_listed(buffer: &mut [u8], at: usize, n: usize, records: &[u8]) -> usize
 }
 
 // The list's line and its records.
-pub fn put_listing(
+pub fn put_listing<E: Numbered>(
     buffer: &mut [u8],
     at: usize,
-    said: Result<usize, Refusal>,
+    said: Result<usize, E>,
     records: &[u8],
 ) -> usize
     requires counted { IfOk said (λ n. 20 * n ≤ length records.now) }
     requires records_in_bounds { at + 384 + 3 * length records.now ≤ length buffer.old }
-    ensures { Put (text (said_listing said records.now)) at buffer.old buffer.new result
+    ensures { Put (text (said_with E.number (listed_as records.now) said)) at buffer.old buffer.new result
         × (result ≤ at + 384 + 3 * length records.now) }
 {
     match said {
@@ -179,24 +178,25 @@ pub fn put_listing(
 }
 
 #[tactic(auto, unfolding(crate::specs::Text::reason))]
-fn words_of(why: Reason) -> &'static [u8]
-    ensures { (result.now ≡ reason (reason_number why)) × (length result.now ≤ 16) }
+fn words_of(why: u64) -> &'static [u8]
+    ensures { (result.now ≡ reason why) × (length result.now ≤ 16) }
 {
     match why {
-        Reason::UnknownWord => b"unknown word",
-        Reason::TooFew => b"too few numbers",
-        Reason::TooMany => b"too many numbers",
-        Reason::TooLarge => b"number too large",
+        0 => b"unknown word",
+        1 => b"too few numbers",
+        2 => b"too many numbers",
+        _ => b"number too large",
     }
 }
 
-pub fn put_not_understood(buffer: &mut [u8], at: usize, line: u64, why: Reason) -> usize
+// Of the reason, its number: above 3 it is told as 3.
+pub fn put_not_understood<W: Numbered>(buffer: &mut [u8], at: usize, line: u64, why: W) -> usize
     requires { at + 384 ≤ length buffer.old }
-    ensures { Put (not_understood line (reason_number why)) at buffer.old buffer.new result × (result ≤ at + 384) }
+    ensures { Put (not_understood line (W.number why)) at buffer.old buffer.new result × (result ≤ at + 384) }
 {
     let behind_number = replay_print::put_numbered(buffer, at, b"line", line);
     let behind = buffer::put_bytes(buffer, behind_number, b": not understood: ");
-    replay_print::put_line(buffer, behind, words_of(why))
+    replay_print::put_line(buffer, behind, words_of(why.number()))
 }
 
 // Every word of the three runs.
@@ -223,14 +223,14 @@ pub fn put_poked(buffer: &mut [u8], at: usize, poked: bool) -> usize
 }
 
 // Yes, or no with the condition and the number that breaks it.
-pub fn put_judgement(buffer: &mut [u8], at: usize, said: Result<(), Broken>) -> usize
+pub fn put_judgement<B: Breach>(buffer: &mut [u8], at: usize, said: Result<(), B>) -> usize
     requires { at + 384 ≤ length buffer.old }
-    ensures { Put (judged (said_judgement said)) at buffer.old buffer.new result × (result ≤ at + 384) }
+    ensures { Put (judged (judged_with B.condition B.breaker said)) at buffer.old buffer.new result × (result ≤ at + 384) }
 {
     match said {
         Ok(()) => replay_print::put_line(buffer, at, b"yes"),
         Err(broken) => {
-            let numbers = [broken.condition as u64, broken.at as u64];
+            let numbers = [broken.condition(), broken.breaker()];
             replay_print::put_told(buffer, at, b"no", &numbers)
         }
     }

@@ -8,6 +8,7 @@ ghost use Rattle.replay_lines.specs.Reasons.{behind as behind_row, instead as in
 ghost use Rattle.replay_lines.specs.Line.{said_by, said};
 ghost use Rattle.replay_lines.specs.Cursor.{told, Fits, Follows, Parts};
 
+use model::Numbered;
 use replay_words::{Lines, Words};
 
 const LARGEST_PERMISSION: u64 = 4294967295;
@@ -28,6 +29,14 @@ impl From<Reason> for u64 {
 
     fn from(reason: Reason) -> u64 {
         reason as u64
+    }
+}
+
+impl Numbered for Reason {
+    ghost number = { reason_number };
+
+    fn number(self) -> u64 {
+        u64::from(self)
     }
 }
 

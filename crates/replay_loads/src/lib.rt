@@ -6,6 +6,7 @@ ghost use Rattle.replay_words.specs.Words.{words};
 ghost use Rattle.replay_loads.specs.Load.{run_named, run_number, top_of, weighed, loading};
 ghost use Rattle.replay_loads.specs.Cursor.{Measures, PouredLine, named, numbered, weight};
 
+use model::Numbered;
 use replay_lines::Reason;
 use replay_words::{RunWord, Words};
 
@@ -15,6 +16,14 @@ pub enum Run {
     Slots = 0,
     Counters = 1,
     Items = 2,
+}
+
+impl Numbered for Run {
+    ghost number = { run_number };
+
+    fn number(self) -> u64 {
+        self as u64
+    }
 }
 
 // The run that a word names, if it names one.

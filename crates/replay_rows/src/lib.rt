@@ -1,15 +1,19 @@
 // The replay program's language: its rows and what they mean stand in specs/. Here are the rows by name, what is asked of a row beside its meaning, and what a line's turn gives back.
 #![tactic(auto)]
 
-ghost use Rattle.std.specs.Prelude.{◌≡◌, ◌+◌, ◌≤◌, length};
+ghost use Rattle.std.specs.Prelude.{◌≡◌, ℕ, ◌+◌, ◌≤◌, List, Ok, length};
 ghost use Rattle.buffer.specs.Put.{Put};
-ghost use Rattle.replay_loads.specs.Load.{run_number};
-ghost use Rattle.replay_rows.specs.World.{longest_call};
+ghost use Rattle.replay_answers.specs.Text.{reason};
+ghost use Rattle.replay_lines.specs.Reasons.{reason_number};
+ghost use Rattle.replay_rows.specs.World.{World, Reply, longest_call};
+ghost use Rattle.replay_rows.specs.Meaning.{meaning};
 ghost use Rattle.replay_rows.specs.Loaded.{shown_load};
-ghost use Rattle.replay_rows.specs.Rows.{Numbers};
+ghost use Rattle.replay_rows.specs.Rows.{Numbers, meaning_of};
+ghost use Rattle.replay_rows.specs.declared.Row.TheVariants as rows;
 ghost use Rattle.replay_rows.specs.Replayed.{language, shown, status as status_of};
 
-use replay_loads::Run;
+use model::Numbered;
+use replay_lines::Reason;
 
 // The rows of the language, in its order.
 #[derive(Clone, Copy, Debug, PartialEq, Eq)]
@@ -74,6 +78,54 @@ impl TryFrom<usize> for Row {
     }
 }
 
+// The reason of a number; above 3 it is told as 3.
+#[tactic(auto, unfolding(replay_answers::specs::Text::reason))]
+fn reason_of(number: u64) -> Reason
+    ensures { reason (reason_number result) ≡ reason number }
+{
+    match number {
+        0 => Reason::UnknownWord,
+        1 => Reason::TooFew,
+        2 => Reason::TooMany,
+        _ => Reason::TooLarge,
+    }
+}
+
+// What a line follows, as its caller has it: a row, or why it follows none; or the number of a row, and behind the last row the line's first
+// number says why.
+pub trait Followed: Copy {
+    ghost means: { Self → ℕ → List ℕ → World → Reply };
+
+    ghost IsFresh: { Self → Type 0 };
+
+    fn row(self, numbers: &[u64; 8]) -> Result<Row, Reason>
+        ensures meant { (n : ℕ) (w : World) → meaning_of result n numbers.now w ≡ means self n numbers.now w }
+        ensures fresh { result ≡ Ok rows.Fresh → IsFresh self };
+}
+
+impl Followed for Result<Row, Reason> {
+    ghost means = { meaning_of };
+
+    ghost IsFresh = { λ follows. follows ≡ Ok rows.Fresh };
+
+    fn row(self, _numbers: &[u64; 8]) -> Result<Row, Reason> {
+        self
+    }
+}
+
+impl Followed for usize {
+    ghost means = { meaning };
+
+    ghost IsFresh = { λ number. number ≡ 14 };
+
+    fn row(self, numbers: &[u64; 8]) -> Result<Row, Reason> {
+        match Row::try_from(self) {
+            Ok(row) => Ok(row),
+            Err(NoRow(_)) => Err(reason_of(numbers[0])),
+        }
+    }
+}
+
 // The position behind the answer, and the hand afterwards.
 #[derive(Drop)]
 pub struct Turn {
@@ -102,17 +154,17 @@ pub fn show_call(
     }
 }
 
-// The same of a line of a dump: its run's name, and not the words again.
+// The same of a line of a dump: its run's name, and not the words again. A number that no run has shows nothing.
 #[tactic(auto, unfolding(crate::specs::Loaded::shown_load))]
-pub fn show_load(echo: bool, run: Run, number: u64, out: &mut [u8], at: usize) -> usize
+pub fn show_load<R: Numbered>(echo: bool, run: R, number: u64, out: &mut [u8], at: usize) -> usize
     requires { at + longest_call ≤ length out.old }
-    ensures { Put (shown_load echo number (run_number run)) at out.old out.new result × (result ≤ at + longest_call) }
+    ensures { Put (shown_load echo number (R.number run)) at out.old out.new result × (result ≤ at + longest_call) }
 {
     if !echo {
         return at;
     }
     let lines = b"slots ..\ncounters ..\nitems ..\n";
-    replay_echo::put_echo(lines, run as usize, &[], number, out, at)
+    replay_echo::put_echo(lines, run.number() as usize, &[], number, out, at)
 }
 
 // The status of a replay: whether its answers could be written, and how many of its lines were not understood. A process ends with a number.

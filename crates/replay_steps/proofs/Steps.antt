@@ -76,20 +76,20 @@ module _ (slots counters items ys cs zs : List ℕ) (s v i : ℕ) (hs : s ≤ le
       }
 
 -- a line on the table there is
-pub on_table_stepped : {slots counters items ys cs zs out out' : List ℕ} {st : State} {t : Turn} (y : Reply) → Held slots counters items st
+pub on_table_stepped : {slots counters items ys cs zs out out' : List ℕ} {st : State} {t : Turn} {told : Reply} (y : Reply) → told ≡ y → Held slots counters items st
     → length ys ≡ length (take st.slots slots) → length cs ≡ length (take st.counters counters) → length zs ≡ length (take st.items items)
-    → Replied y (mem ys cs zs) st.at out out' t
+    → Replied told (mem ys cs zs) st.at out out' t
     → Stepped y st
     (record { slots = st.slots; counters = st.counters; items = st.items; hand = t.hand; number = st.number; missed = st.missed; from = st.from; at = t.next })
     (ys ++ drop st.slots slots) (cs ++ drop st.counters counters) (zs ++ drop st.items items) out out'
-on_table_stepped {slots} {counters} {items} {ys} {cs} {zs} {out} {out'} {st} {t} y k es ev ei r =
+on_table_stepped {slots} {counters} {items} {ys} {cs} {zs} {out} {out'} {st} {t} y e k es ev ei r =
     let hs : st.slots ≤ length slots = omega (arith, k.slots_in, k.all_slots) in
     let hv : st.counters ≤ length counters = omega (arith, k.counters_in, k.all_counters) in
     let hi : st.items ≤ length items = omega (arith, k.items_in, k.all_items) in
     record {
-      put = r.put;
+      put = rw (← e) r.put;
       near = r.near;
-      world_is = ap₂ world (back_mem slots counters items ys cs zs st.slots st.counters st.items hs hv hi es ev ei ∙ r.left) r.hand;
+      world_is = rw (← e) (ap₂ world (back_mem slots counters items ys cs zs st.slots st.counters st.items hs hv hi es ev ei ∙ r.left) r.hand);
       held = back_held slots counters items ys cs zs st.slots st.counters st.items hs hv hi es ev ei k refl refl refl;
       same_number = refl;
       same_from = refl;

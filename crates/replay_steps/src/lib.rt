@@ -4,13 +4,11 @@
 
 ghost use Rattle.std.specs.Prelude.{◌≡◌, ◌+◌, ◌≤◌, length};
 ghost use Rattle.replay_rows.specs.Meaning.{starts};
-ghost use Rattle.replay_rows.specs.Rows.{meaning_of};
 ghost use Rattle.replay_rows.specs.World.{longest};
 ghost use Rattle.replay_steps.specs.Standing.{in_use, Held, Stepped, Refused};
 
 use model::Refusal;
-use replay_lines::Reason;
-use replay_rows::Row;
+use replay_rows::{Followed, Row};
 
 // Where the replay stands: the lengths of the three runs in use and the hand; the lines that are behind it and how many of them were not understood, the position in the text, and in the buffer.
 #[derive(Clone, Copy)]
@@ -69,8 +67,8 @@ fn start(
 
 // One line, on the runs in use.
 #[tactic(auto, unfolding(replay_rows::specs::Meaning::meaning))]
-pub fn step(
-    follows: Result<Row, Reason>,
+pub fn step<F: Followed>(
+    follows: F,
     numbers: &[u64; 8],
     slots: &mut [u32],
     counters: &mut [u32],
@@ -81,17 +79,18 @@ pub fn step(
 ) -> State
     requires held { Held slots.old counters.old items.old state × (state.at + longest ≤ length out.old) }
     requires records_len { length records.old ≡ 81920 }
-    ensures { Stepped (meaning_of follows state.number numbers.now (in_use slots.old counters.old items.old state)) state result
+    ensures { Stepped (F.means follows state.number numbers.now (in_use slots.old counters.old items.old state)) state result
         slots.new counters.new items.new out.old out.new }
 {
-    if follows == Ok(Row::Fresh) {
+    let row = follows.row(numbers);
+    if row == Ok(Row::Fresh) {
         let [s, v, i, ..] = *numbers;
         return start(
             s as usize, v as usize, i as usize, slots, counters, items, out, state,
         );
     }
     let turn = replay_turns::on_table(
-        follows,
+        row,
         state.number,
         numbers,
         &mut slots[..state.slots],

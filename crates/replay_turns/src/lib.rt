@@ -10,11 +10,11 @@ ghost use Rattle.replay_rows.specs.declared.Row.TheVariants as row;
 
 use model::Table;
 use replay_lines::Reason;
-use replay_rows::{Row, Turn};
+use replay_rows::{Followed, Row, Turn};
 
-// A line that makes no fresh table: its call on the table there is, its answer, and the hand afterwards. Of one that follows no row, why.
+// A line's call on the table there is, by its row; of one that follows none, why.
 #[tactic(auto, unfolding(replay_rows::specs::Meaning::meaning))]
-pub fn on_table(
+fn on_row(
     follows: Result<Row, Reason>,
     number: u64,
     numbers: &[u64; 8],
@@ -129,4 +129,36 @@ pub fn on_table(
         },
         Row::Blank => Turn { next: at, hand },
     }
+}
+
+// A line that makes no fresh table: its call on the table there is, its answer, and the hand afterwards. Of one that follows no row, why.
+pub fn on_table<F: Followed>(
+    follows: F,
+    number: u64,
+    numbers: &[u64; 8],
+    slots: &mut [u32],
+    counters: &mut [u32],
+    items: &mut [u64],
+    records: &mut [u8],
+    out: &mut [u8],
+    at: usize,
+    hand: usize,
+) -> Turn
+    requires no_fresh { (¬ (F.IsFresh follows)) × (length records.old ≡ 81920) }
+    requires ample { Ample (mem slots.old counters.old items.old) at out.old }
+    ensures { Replied (F.means follows number numbers.now (world (mem slots.old counters.old items.old) hand))
+        (mem slots.new counters.new items.new) at out.old out.new result }
+{
+    on_row(
+        follows.row(numbers),
+        number,
+        numbers,
+        slots,
+        counters,
+        items,
+        records,
+        out,
+        at,
+        hand,
+    )
 }

@@ -4,7 +4,7 @@ use borrow.Author.Rules.{rules}
 use Rattle.replay_steps.proofs.step.Goals as goal
 
 pub on_table-turn-requires : goal.on_table-turn-requires
-on_table-turn-requires c = record { no_fresh = search rules; ample = search fronts_ample }
+on_table-turn-requires g c = record { no_fresh = search rules; ample = search fronts_ample }
 
 pub returns : goal.returns
-returns c = search on_table_stepped
+returns g c = search (on_table_stepped, c.row-row.ensures.meant)

@@ -1,5 +1,5 @@
--- `replay_turns::on_table` meets its contract. Assumes nothing.
-use Rattle.replay_turns.proofs.on_table.Goals as goal
+-- `replay_turns::on_row` meets its contract. Assumes nothing.
+use Rattle.replay_turns.proofs.on_row.Goals as goal
 
 pub returns-in-CutSet : goal.returns-in-CutSet
 returns-in-CutSet c = rw (c.in-Ok.is, c.in-CutSet.is) (c.cut_set.ensures c.args.number c.args.hand)
