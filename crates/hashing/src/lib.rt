@@ -11,7 +11,7 @@ ghost use Rattle.hashing.specs.Homes.{HomesAre};
 pub fn mul_mod_2_32(h: u32, p: u32) -> u32
     ensures { result ≡ (h * p) % 2 ^ 32 }
 {
-    h.wrapping_mul(p)
+    (u64::from(h) * u64::from(p) % 4294967296) as u32
 }
 
 // One byte of FNV-1a.
