@@ -15,7 +15,7 @@ const LARGEST_PERMISSION: u64 = 4294967295;
 
 const LARGEST_BUFFER: u64 = 81920;
 
-// Why a line follows no row; it is shown as its number.
+// Why a line follows no row; it is shown in words.
 #[derive(Clone, Copy, Debug, PartialEq, Eq)]
 pub enum Reason {
     UnknownWord = 0,
