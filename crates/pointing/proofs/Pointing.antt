@@ -5,7 +5,7 @@ use mathlib.Core.Path.{◌≡◌, refl, sym, ap, ◌∙◌}
 use mathlib.Core.Logic.{◌≢◌}
 use mathlib.Core.Bool.{Bool, true, false, not, ◌&&◌, ◌||◌}
 use Rattle.std.specs.Prelude.{Some, cond}
-use Rattle.std.specs.List.{count_by, list_any}
+use Rattle.std.specs.List.{count_by}
 use Rattle.std.proofs.lemmas.List.Recursion.{is_count_by}
 use mathlib.Core.List.{List, [], ◌∷◌, map}
 use lib.ListN.{length, get_or}
@@ -25,7 +25,7 @@ use Rattle.judgement.proofs.Conditions.{four_holds, five_holds}
 use Rattle.judgement.proofs.AtHome.{pointers_at_home, twins_at_home}
 use Rattle.pointing.specs.Known.{Aimed, Sought}
 
--- the library's counts and tests of words are the definition's
+-- the library's count of words is the definition's
 pub counted : (f : ℕ → Bool) (ws : List ℕ) → count_by f ws ≡ count f ws
 unfolding count
 counted f ws =
@@ -35,11 +35,6 @@ counted f ws =
 pub by_twin : (l : List ℕ) (x p w : ℕ) {y : ℕ} → y ≡ get_or l (4 * (w % 65536)) 0 → (not (eqb (w % 65536) p) && eqb y x) ≡ twin l x p (place w)
 unfolding twin place
 by_twin l x p w e = rw e
-
-pub any_listed : (f : ℕ → Bool) (ws : List ℕ) → list_any f ws ≡ any f ws
-unfolding first
-any_listed f [] = refl
-any_listed f (w ∷ ws) = bool (λ b. (b || list_any f ws) ≡ there (choose b (Some w) (first f ws))) (f w) (λ e. refl) λ e. any_listed f ws
 
 -- counts and tests of words are those of slots
 count_map : (f : ℕ → Bool) (g : ℕ → ℕ) (is : List ℕ) → count f (map g is) ≡ count (λ i. f (g i)) is
