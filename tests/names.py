@@ -118,7 +118,7 @@ def wrong_word(word, document):
     function = re.fullmatch(r'(\w+)::(\w+)', word)
     if function and function.group(1) in CRATES:
         code = '\n'.join(bare(p) for p in CRATES[function.group(1)].glob('src/**/*.rt'))
-        return None if re.search(r'\b(fn|struct|enum) %s\b' % function.group(2), code) else 'not in that crate'
+        return None if re.search(r'\b(fn|struct|enum|trait) %s\b' % function.group(2), code) else 'not in that crate'
     for part in words_of(word.replace('…', ' ')):
         if re.search('[A-Za-z]', part) and wrong_part(part.rstrip('-_'), '…' in word):
             return 'no such name: %s' % part
