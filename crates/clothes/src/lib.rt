@@ -2,9 +2,9 @@
 // refusals, kinds and conditions.
 #![tactic(auto)]
 
-ghost use Rattle.std.specs.Prelude.{◌≡◌, List, ℕ, ◌*◌, ◌<◌, take};
-ghost use Rattle.model.specs.Answers.{deleted, entry_made, evicted, listed, move_made, started, stored};
-ghost use Rattle.model.specs.Said.{said_with, read_as, found_at, said_reading};
+ghost use Rattle.std.specs.Prelude.{◌≡◌, List, ℕ, ◌<◌};
+ghost use Rattle.model.specs.Answers.{deleted, entry_made, move_made, started};
+ghost use Rattle.model.specs.Said.{said_with, read_as, found_at, stored_as, evicted_as, listed_as, said_reading};
 ghost use Rattle.judgement.specs.Said.{said};
 ghost use Rattle.clothes.specs.Clothes.{number, reading_clothes, finding_clothes, setting_clothes, plan_dressed, turned_clothes, listing_clothes, numbered, judgement_clothes};
 
@@ -159,7 +159,7 @@ impl<E: ReplyNumber> From<Result<Option<usize>, E>> for BoughladderFinding {
 }
 
 impl<E: ReplyNumber> From<Result<Stored, E>> for BoughladderSetting {
-    ghost from_gives = { λ told reply. reply ≡ setting_clothes (said_with E.number (λ b. stored b.visits b.moves) told) };
+    ghost from_gives = { λ told reply. reply ≡ setting_clothes (said_with E.number stored_as told) };
 
     fn from(told: Result<Stored, E>) -> BoughladderSetting {
         match told {
@@ -218,7 +218,7 @@ pub fn dress_done<E: ReplyNumber>(told: Result<(), E>) -> u32
 
 // With the hand that came back.
 pub fn dress_evicting<E: ReplyNumber>(told: Result<Evicted, E>, hand: usize) -> BoughladderEvicting
-    ensures { result ≡ turned_clothes hand (said_with E.number (λ b. evicted b.victim b.looked hand) told) }
+    ensures { result ≡ turned_clothes hand (said_with E.number (evicted_as hand) told) }
 {
     match told {
         Ok(Evicted { victim, looked }) => BoughladderEvicting {
@@ -238,7 +238,7 @@ pub fn dress_evicting<E: ReplyNumber>(told: Result<Evicted, E>, hand: usize) -> 
 
 // Whatever the buffer holds.
 impl<E: ReplyNumber> From<Result<usize, E>> for BoughladderListing {
-    ghost from_gives = { λ told reply. (buffer : List ℕ) → reply ≡ listing_clothes (said_with E.number (λ n. listed n (take (20 * n) buffer)) told) };
+    ghost from_gives = { λ told reply. (buffer : List ℕ) → reply ≡ listing_clothes (said_with E.number (listed_as buffer) told) };
 
     fn from(told: Result<usize, E>) -> BoughladderListing {
         match told {
